@@ -1,0 +1,3 @@
+pub mod Digits
+pub mod Commands
+pub mod Answers
