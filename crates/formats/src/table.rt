@@ -1,0 +1,1285 @@
+// The colours of the 3:3:2 format, by pixel value.
+use colour::Colour;
+
+pub const COLOURS: [Colour; 256] = [
+    Colour {
+        red: 0,
+        green: 0,
+        blue: 0,
+    },
+    Colour {
+        red: 0,
+        green: 0,
+        blue: 85,
+    },
+    Colour {
+        red: 0,
+        green: 0,
+        blue: 170,
+    },
+    Colour {
+        red: 0,
+        green: 0,
+        blue: 255,
+    },
+    Colour {
+        red: 0,
+        green: 36,
+        blue: 0,
+    },
+    Colour {
+        red: 0,
+        green: 36,
+        blue: 85,
+    },
+    Colour {
+        red: 0,
+        green: 36,
+        blue: 170,
+    },
+    Colour {
+        red: 0,
+        green: 36,
+        blue: 255,
+    },
+    Colour {
+        red: 0,
+        green: 73,
+        blue: 0,
+    },
+    Colour {
+        red: 0,
+        green: 73,
+        blue: 85,
+    },
+    Colour {
+        red: 0,
+        green: 73,
+        blue: 170,
+    },
+    Colour {
+        red: 0,
+        green: 73,
+        blue: 255,
+    },
+    Colour {
+        red: 0,
+        green: 109,
+        blue: 0,
+    },
+    Colour {
+        red: 0,
+        green: 109,
+        blue: 85,
+    },
+    Colour {
+        red: 0,
+        green: 109,
+        blue: 170,
+    },
+    Colour {
+        red: 0,
+        green: 109,
+        blue: 255,
+    },
+    Colour {
+        red: 0,
+        green: 146,
+        blue: 0,
+    },
+    Colour {
+        red: 0,
+        green: 146,
+        blue: 85,
+    },
+    Colour {
+        red: 0,
+        green: 146,
+        blue: 170,
+    },
+    Colour {
+        red: 0,
+        green: 146,
+        blue: 255,
+    },
+    Colour {
+        red: 0,
+        green: 182,
+        blue: 0,
+    },
+    Colour {
+        red: 0,
+        green: 182,
+        blue: 85,
+    },
+    Colour {
+        red: 0,
+        green: 182,
+        blue: 170,
+    },
+    Colour {
+        red: 0,
+        green: 182,
+        blue: 255,
+    },
+    Colour {
+        red: 0,
+        green: 219,
+        blue: 0,
+    },
+    Colour {
+        red: 0,
+        green: 219,
+        blue: 85,
+    },
+    Colour {
+        red: 0,
+        green: 219,
+        blue: 170,
+    },
+    Colour {
+        red: 0,
+        green: 219,
+        blue: 255,
+    },
+    Colour {
+        red: 0,
+        green: 255,
+        blue: 0,
+    },
+    Colour {
+        red: 0,
+        green: 255,
+        blue: 85,
+    },
+    Colour {
+        red: 0,
+        green: 255,
+        blue: 170,
+    },
+    Colour {
+        red: 0,
+        green: 255,
+        blue: 255,
+    },
+    Colour {
+        red: 36,
+        green: 0,
+        blue: 0,
+    },
+    Colour {
+        red: 36,
+        green: 0,
+        blue: 85,
+    },
+    Colour {
+        red: 36,
+        green: 0,
+        blue: 170,
+    },
+    Colour {
+        red: 36,
+        green: 0,
+        blue: 255,
+    },
+    Colour {
+        red: 36,
+        green: 36,
+        blue: 0,
+    },
+    Colour {
+        red: 36,
+        green: 36,
+        blue: 85,
+    },
+    Colour {
+        red: 36,
+        green: 36,
+        blue: 170,
+    },
+    Colour {
+        red: 36,
+        green: 36,
+        blue: 255,
+    },
+    Colour {
+        red: 36,
+        green: 73,
+        blue: 0,
+    },
+    Colour {
+        red: 36,
+        green: 73,
+        blue: 85,
+    },
+    Colour {
+        red: 36,
+        green: 73,
+        blue: 170,
+    },
+    Colour {
+        red: 36,
+        green: 73,
+        blue: 255,
+    },
+    Colour {
+        red: 36,
+        green: 109,
+        blue: 0,
+    },
+    Colour {
+        red: 36,
+        green: 109,
+        blue: 85,
+    },
+    Colour {
+        red: 36,
+        green: 109,
+        blue: 170,
+    },
+    Colour {
+        red: 36,
+        green: 109,
+        blue: 255,
+    },
+    Colour {
+        red: 36,
+        green: 146,
+        blue: 0,
+    },
+    Colour {
+        red: 36,
+        green: 146,
+        blue: 85,
+    },
+    Colour {
+        red: 36,
+        green: 146,
+        blue: 170,
+    },
+    Colour {
+        red: 36,
+        green: 146,
+        blue: 255,
+    },
+    Colour {
+        red: 36,
+        green: 182,
+        blue: 0,
+    },
+    Colour {
+        red: 36,
+        green: 182,
+        blue: 85,
+    },
+    Colour {
+        red: 36,
+        green: 182,
+        blue: 170,
+    },
+    Colour {
+        red: 36,
+        green: 182,
+        blue: 255,
+    },
+    Colour {
+        red: 36,
+        green: 219,
+        blue: 0,
+    },
+    Colour {
+        red: 36,
+        green: 219,
+        blue: 85,
+    },
+    Colour {
+        red: 36,
+        green: 219,
+        blue: 170,
+    },
+    Colour {
+        red: 36,
+        green: 219,
+        blue: 255,
+    },
+    Colour {
+        red: 36,
+        green: 255,
+        blue: 0,
+    },
+    Colour {
+        red: 36,
+        green: 255,
+        blue: 85,
+    },
+    Colour {
+        red: 36,
+        green: 255,
+        blue: 170,
+    },
+    Colour {
+        red: 36,
+        green: 255,
+        blue: 255,
+    },
+    Colour {
+        red: 73,
+        green: 0,
+        blue: 0,
+    },
+    Colour {
+        red: 73,
+        green: 0,
+        blue: 85,
+    },
+    Colour {
+        red: 73,
+        green: 0,
+        blue: 170,
+    },
+    Colour {
+        red: 73,
+        green: 0,
+        blue: 255,
+    },
+    Colour {
+        red: 73,
+        green: 36,
+        blue: 0,
+    },
+    Colour {
+        red: 73,
+        green: 36,
+        blue: 85,
+    },
+    Colour {
+        red: 73,
+        green: 36,
+        blue: 170,
+    },
+    Colour {
+        red: 73,
+        green: 36,
+        blue: 255,
+    },
+    Colour {
+        red: 73,
+        green: 73,
+        blue: 0,
+    },
+    Colour {
+        red: 73,
+        green: 73,
+        blue: 85,
+    },
+    Colour {
+        red: 73,
+        green: 73,
+        blue: 170,
+    },
+    Colour {
+        red: 73,
+        green: 73,
+        blue: 255,
+    },
+    Colour {
+        red: 73,
+        green: 109,
+        blue: 0,
+    },
+    Colour {
+        red: 73,
+        green: 109,
+        blue: 85,
+    },
+    Colour {
+        red: 73,
+        green: 109,
+        blue: 170,
+    },
+    Colour {
+        red: 73,
+        green: 109,
+        blue: 255,
+    },
+    Colour {
+        red: 73,
+        green: 146,
+        blue: 0,
+    },
+    Colour {
+        red: 73,
+        green: 146,
+        blue: 85,
+    },
+    Colour {
+        red: 73,
+        green: 146,
+        blue: 170,
+    },
+    Colour {
+        red: 73,
+        green: 146,
+        blue: 255,
+    },
+    Colour {
+        red: 73,
+        green: 182,
+        blue: 0,
+    },
+    Colour {
+        red: 73,
+        green: 182,
+        blue: 85,
+    },
+    Colour {
+        red: 73,
+        green: 182,
+        blue: 170,
+    },
+    Colour {
+        red: 73,
+        green: 182,
+        blue: 255,
+    },
+    Colour {
+        red: 73,
+        green: 219,
+        blue: 0,
+    },
+    Colour {
+        red: 73,
+        green: 219,
+        blue: 85,
+    },
+    Colour {
+        red: 73,
+        green: 219,
+        blue: 170,
+    },
+    Colour {
+        red: 73,
+        green: 219,
+        blue: 255,
+    },
+    Colour {
+        red: 73,
+        green: 255,
+        blue: 0,
+    },
+    Colour {
+        red: 73,
+        green: 255,
+        blue: 85,
+    },
+    Colour {
+        red: 73,
+        green: 255,
+        blue: 170,
+    },
+    Colour {
+        red: 73,
+        green: 255,
+        blue: 255,
+    },
+    Colour {
+        red: 109,
+        green: 0,
+        blue: 0,
+    },
+    Colour {
+        red: 109,
+        green: 0,
+        blue: 85,
+    },
+    Colour {
+        red: 109,
+        green: 0,
+        blue: 170,
+    },
+    Colour {
+        red: 109,
+        green: 0,
+        blue: 255,
+    },
+    Colour {
+        red: 109,
+        green: 36,
+        blue: 0,
+    },
+    Colour {
+        red: 109,
+        green: 36,
+        blue: 85,
+    },
+    Colour {
+        red: 109,
+        green: 36,
+        blue: 170,
+    },
+    Colour {
+        red: 109,
+        green: 36,
+        blue: 255,
+    },
+    Colour {
+        red: 109,
+        green: 73,
+        blue: 0,
+    },
+    Colour {
+        red: 109,
+        green: 73,
+        blue: 85,
+    },
+    Colour {
+        red: 109,
+        green: 73,
+        blue: 170,
+    },
+    Colour {
+        red: 109,
+        green: 73,
+        blue: 255,
+    },
+    Colour {
+        red: 109,
+        green: 109,
+        blue: 0,
+    },
+    Colour {
+        red: 109,
+        green: 109,
+        blue: 85,
+    },
+    Colour {
+        red: 109,
+        green: 109,
+        blue: 170,
+    },
+    Colour {
+        red: 109,
+        green: 109,
+        blue: 255,
+    },
+    Colour {
+        red: 109,
+        green: 146,
+        blue: 0,
+    },
+    Colour {
+        red: 109,
+        green: 146,
+        blue: 85,
+    },
+    Colour {
+        red: 109,
+        green: 146,
+        blue: 170,
+    },
+    Colour {
+        red: 109,
+        green: 146,
+        blue: 255,
+    },
+    Colour {
+        red: 109,
+        green: 182,
+        blue: 0,
+    },
+    Colour {
+        red: 109,
+        green: 182,
+        blue: 85,
+    },
+    Colour {
+        red: 109,
+        green: 182,
+        blue: 170,
+    },
+    Colour {
+        red: 109,
+        green: 182,
+        blue: 255,
+    },
+    Colour {
+        red: 109,
+        green: 219,
+        blue: 0,
+    },
+    Colour {
+        red: 109,
+        green: 219,
+        blue: 85,
+    },
+    Colour {
+        red: 109,
+        green: 219,
+        blue: 170,
+    },
+    Colour {
+        red: 109,
+        green: 219,
+        blue: 255,
+    },
+    Colour {
+        red: 109,
+        green: 255,
+        blue: 0,
+    },
+    Colour {
+        red: 109,
+        green: 255,
+        blue: 85,
+    },
+    Colour {
+        red: 109,
+        green: 255,
+        blue: 170,
+    },
+    Colour {
+        red: 109,
+        green: 255,
+        blue: 255,
+    },
+    Colour {
+        red: 146,
+        green: 0,
+        blue: 0,
+    },
+    Colour {
+        red: 146,
+        green: 0,
+        blue: 85,
+    },
+    Colour {
+        red: 146,
+        green: 0,
+        blue: 170,
+    },
+    Colour {
+        red: 146,
+        green: 0,
+        blue: 255,
+    },
+    Colour {
+        red: 146,
+        green: 36,
+        blue: 0,
+    },
+    Colour {
+        red: 146,
+        green: 36,
+        blue: 85,
+    },
+    Colour {
+        red: 146,
+        green: 36,
+        blue: 170,
+    },
+    Colour {
+        red: 146,
+        green: 36,
+        blue: 255,
+    },
+    Colour {
+        red: 146,
+        green: 73,
+        blue: 0,
+    },
+    Colour {
+        red: 146,
+        green: 73,
+        blue: 85,
+    },
+    Colour {
+        red: 146,
+        green: 73,
+        blue: 170,
+    },
+    Colour {
+        red: 146,
+        green: 73,
+        blue: 255,
+    },
+    Colour {
+        red: 146,
+        green: 109,
+        blue: 0,
+    },
+    Colour {
+        red: 146,
+        green: 109,
+        blue: 85,
+    },
+    Colour {
+        red: 146,
+        green: 109,
+        blue: 170,
+    },
+    Colour {
+        red: 146,
+        green: 109,
+        blue: 255,
+    },
+    Colour {
+        red: 146,
+        green: 146,
+        blue: 0,
+    },
+    Colour {
+        red: 146,
+        green: 146,
+        blue: 85,
+    },
+    Colour {
+        red: 146,
+        green: 146,
+        blue: 170,
+    },
+    Colour {
+        red: 146,
+        green: 146,
+        blue: 255,
+    },
+    Colour {
+        red: 146,
+        green: 182,
+        blue: 0,
+    },
+    Colour {
+        red: 146,
+        green: 182,
+        blue: 85,
+    },
+    Colour {
+        red: 146,
+        green: 182,
+        blue: 170,
+    },
+    Colour {
+        red: 146,
+        green: 182,
+        blue: 255,
+    },
+    Colour {
+        red: 146,
+        green: 219,
+        blue: 0,
+    },
+    Colour {
+        red: 146,
+        green: 219,
+        blue: 85,
+    },
+    Colour {
+        red: 146,
+        green: 219,
+        blue: 170,
+    },
+    Colour {
+        red: 146,
+        green: 219,
+        blue: 255,
+    },
+    Colour {
+        red: 146,
+        green: 255,
+        blue: 0,
+    },
+    Colour {
+        red: 146,
+        green: 255,
+        blue: 85,
+    },
+    Colour {
+        red: 146,
+        green: 255,
+        blue: 170,
+    },
+    Colour {
+        red: 146,
+        green: 255,
+        blue: 255,
+    },
+    Colour {
+        red: 182,
+        green: 0,
+        blue: 0,
+    },
+    Colour {
+        red: 182,
+        green: 0,
+        blue: 85,
+    },
+    Colour {
+        red: 182,
+        green: 0,
+        blue: 170,
+    },
+    Colour {
+        red: 182,
+        green: 0,
+        blue: 255,
+    },
+    Colour {
+        red: 182,
+        green: 36,
+        blue: 0,
+    },
+    Colour {
+        red: 182,
+        green: 36,
+        blue: 85,
+    },
+    Colour {
+        red: 182,
+        green: 36,
+        blue: 170,
+    },
+    Colour {
+        red: 182,
+        green: 36,
+        blue: 255,
+    },
+    Colour {
+        red: 182,
+        green: 73,
+        blue: 0,
+    },
+    Colour {
+        red: 182,
+        green: 73,
+        blue: 85,
+    },
+    Colour {
+        red: 182,
+        green: 73,
+        blue: 170,
+    },
+    Colour {
+        red: 182,
+        green: 73,
+        blue: 255,
+    },
+    Colour {
+        red: 182,
+        green: 109,
+        blue: 0,
+    },
+    Colour {
+        red: 182,
+        green: 109,
+        blue: 85,
+    },
+    Colour {
+        red: 182,
+        green: 109,
+        blue: 170,
+    },
+    Colour {
+        red: 182,
+        green: 109,
+        blue: 255,
+    },
+    Colour {
+        red: 182,
+        green: 146,
+        blue: 0,
+    },
+    Colour {
+        red: 182,
+        green: 146,
+        blue: 85,
+    },
+    Colour {
+        red: 182,
+        green: 146,
+        blue: 170,
+    },
+    Colour {
+        red: 182,
+        green: 146,
+        blue: 255,
+    },
+    Colour {
+        red: 182,
+        green: 182,
+        blue: 0,
+    },
+    Colour {
+        red: 182,
+        green: 182,
+        blue: 85,
+    },
+    Colour {
+        red: 182,
+        green: 182,
+        blue: 170,
+    },
+    Colour {
+        red: 182,
+        green: 182,
+        blue: 255,
+    },
+    Colour {
+        red: 182,
+        green: 219,
+        blue: 0,
+    },
+    Colour {
+        red: 182,
+        green: 219,
+        blue: 85,
+    },
+    Colour {
+        red: 182,
+        green: 219,
+        blue: 170,
+    },
+    Colour {
+        red: 182,
+        green: 219,
+        blue: 255,
+    },
+    Colour {
+        red: 182,
+        green: 255,
+        blue: 0,
+    },
+    Colour {
+        red: 182,
+        green: 255,
+        blue: 85,
+    },
+    Colour {
+        red: 182,
+        green: 255,
+        blue: 170,
+    },
+    Colour {
+        red: 182,
+        green: 255,
+        blue: 255,
+    },
+    Colour {
+        red: 219,
+        green: 0,
+        blue: 0,
+    },
+    Colour {
+        red: 219,
+        green: 0,
+        blue: 85,
+    },
+    Colour {
+        red: 219,
+        green: 0,
+        blue: 170,
+    },
+    Colour {
+        red: 219,
+        green: 0,
+        blue: 255,
+    },
+    Colour {
+        red: 219,
+        green: 36,
+        blue: 0,
+    },
+    Colour {
+        red: 219,
+        green: 36,
+        blue: 85,
+    },
+    Colour {
+        red: 219,
+        green: 36,
+        blue: 170,
+    },
+    Colour {
+        red: 219,
+        green: 36,
+        blue: 255,
+    },
+    Colour {
+        red: 219,
+        green: 73,
+        blue: 0,
+    },
+    Colour {
+        red: 219,
+        green: 73,
+        blue: 85,
+    },
+    Colour {
+        red: 219,
+        green: 73,
+        blue: 170,
+    },
+    Colour {
+        red: 219,
+        green: 73,
+        blue: 255,
+    },
+    Colour {
+        red: 219,
+        green: 109,
+        blue: 0,
+    },
+    Colour {
+        red: 219,
+        green: 109,
+        blue: 85,
+    },
+    Colour {
+        red: 219,
+        green: 109,
+        blue: 170,
+    },
+    Colour {
+        red: 219,
+        green: 109,
+        blue: 255,
+    },
+    Colour {
+        red: 219,
+        green: 146,
+        blue: 0,
+    },
+    Colour {
+        red: 219,
+        green: 146,
+        blue: 85,
+    },
+    Colour {
+        red: 219,
+        green: 146,
+        blue: 170,
+    },
+    Colour {
+        red: 219,
+        green: 146,
+        blue: 255,
+    },
+    Colour {
+        red: 219,
+        green: 182,
+        blue: 0,
+    },
+    Colour {
+        red: 219,
+        green: 182,
+        blue: 85,
+    },
+    Colour {
+        red: 219,
+        green: 182,
+        blue: 170,
+    },
+    Colour {
+        red: 219,
+        green: 182,
+        blue: 255,
+    },
+    Colour {
+        red: 219,
+        green: 219,
+        blue: 0,
+    },
+    Colour {
+        red: 219,
+        green: 219,
+        blue: 85,
+    },
+    Colour {
+        red: 219,
+        green: 219,
+        blue: 170,
+    },
+    Colour {
+        red: 219,
+        green: 219,
+        blue: 255,
+    },
+    Colour {
+        red: 219,
+        green: 255,
+        blue: 0,
+    },
+    Colour {
+        red: 219,
+        green: 255,
+        blue: 85,
+    },
+    Colour {
+        red: 219,
+        green: 255,
+        blue: 170,
+    },
+    Colour {
+        red: 219,
+        green: 255,
+        blue: 255,
+    },
+    Colour {
+        red: 255,
+        green: 0,
+        blue: 0,
+    },
+    Colour {
+        red: 255,
+        green: 0,
+        blue: 85,
+    },
+    Colour {
+        red: 255,
+        green: 0,
+        blue: 170,
+    },
+    Colour {
+        red: 255,
+        green: 0,
+        blue: 255,
+    },
+    Colour {
+        red: 255,
+        green: 36,
+        blue: 0,
+    },
+    Colour {
+        red: 255,
+        green: 36,
+        blue: 85,
+    },
+    Colour {
+        red: 255,
+        green: 36,
+        blue: 170,
+    },
+    Colour {
+        red: 255,
+        green: 36,
+        blue: 255,
+    },
+    Colour {
+        red: 255,
+        green: 73,
+        blue: 0,
+    },
+    Colour {
+        red: 255,
+        green: 73,
+        blue: 85,
+    },
+    Colour {
+        red: 255,
+        green: 73,
+        blue: 170,
+    },
+    Colour {
+        red: 255,
+        green: 73,
+        blue: 255,
+    },
+    Colour {
+        red: 255,
+        green: 109,
+        blue: 0,
+    },
+    Colour {
+        red: 255,
+        green: 109,
+        blue: 85,
+    },
+    Colour {
+        red: 255,
+        green: 109,
+        blue: 170,
+    },
+    Colour {
+        red: 255,
+        green: 109,
+        blue: 255,
+    },
+    Colour {
+        red: 255,
+        green: 146,
+        blue: 0,
+    },
+    Colour {
+        red: 255,
+        green: 146,
+        blue: 85,
+    },
+    Colour {
+        red: 255,
+        green: 146,
+        blue: 170,
+    },
+    Colour {
+        red: 255,
+        green: 146,
+        blue: 255,
+    },
+    Colour {
+        red: 255,
+        green: 182,
+        blue: 0,
+    },
+    Colour {
+        red: 255,
+        green: 182,
+        blue: 85,
+    },
+    Colour {
+        red: 255,
+        green: 182,
+        blue: 170,
+    },
+    Colour {
+        red: 255,
+        green: 182,
+        blue: 255,
+    },
+    Colour {
+        red: 255,
+        green: 219,
+        blue: 0,
+    },
+    Colour {
+        red: 255,
+        green: 219,
+        blue: 85,
+    },
+    Colour {
+        red: 255,
+        green: 219,
+        blue: 170,
+    },
+    Colour {
+        red: 255,
+        green: 219,
+        blue: 255,
+    },
+    Colour {
+        red: 255,
+        green: 255,
+        blue: 0,
+    },
+    Colour {
+        red: 255,
+        green: 255,
+        blue: 85,
+    },
+    Colour {
+        red: 255,
+        green: 255,
+        blue: 170,
+    },
+    Colour {
+        red: 255,
+        green: 255,
+        blue: 255,
+    },
+];
