@@ -1,6 +1,13 @@
-// The colours of the 3:3:2 format, by pixel value.
+// The tables of the formats.
 use colour::Colour;
 
+// The levels of the index format, by bits 7-6 of a pixel value.
+pub const INDEX_LEVELS: [u8; 4] = [0, 10, 21, 32];
+
+// The levels of the 4:4:4:4 format, by bits 15-12 of a pixel value.
+pub const FIELD_LEVELS: [u8; 16] = [0, 2, 4, 6, 8, 10, 12, 14, 16, 18, 20, 22, 24, 26, 28, 32];
+
+// The colours of the 3:3:2 format, by pixel value.
 pub const COLOURS: [Colour; 256] = [
     Colour {
         red: 0,
