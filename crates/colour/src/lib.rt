@@ -56,7 +56,8 @@ impl Palette {
     pub fn set_from_bytes(&mut self, k: u8, low: u8, high: u8)
         ensures { λ _. ⌜ now (self .exit) .entries ≡ set (now (self .entry) .entries) (k % 64) (entry-of-bytes low high) ⌝ }
     {
-        self.entries[(k % 64) as usize] = entry_of_bytes(low, high);
+        let place = (k % 64) as usize;
+        self.entries[place] = entry_of_bytes(low, high);
     }
 
     pub fn colour(&self, k: u8) -> Colour

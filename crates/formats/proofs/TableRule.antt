@@ -11,7 +11,7 @@ use Rattle.std.proofs.shelf.Tests.{and-parts, eqb-true}
 use Rattle.colour.specs.declared.Colour.{Colour}
 use Rattle.colour.specs.Channels.{rgb}
 use Rattle.formats.specs.Packed.{colour332}
-use Rattle.formats.specs.Overlays.{field-level, level4444}
+use Rattle.formats.specs.Overlays.{field-level}
 
 module _ {A : Type 0} (same : A → A → Bool) (same-is : (a b : A) → same a b ≡ true → a ≡ b) (rule : ℕ → A) where
   -- each row from the i-th on is what the rule gives at its place
@@ -53,5 +53,5 @@ pub colour-row : (rows : List Colour) → kept same same-is colour332 0 rows ≡
 colour-row rows t n v d = row same same-is colour332 rows t (v % 256) d (omega arith) ∙ lowest v
 
 pub level-row : (rows : List ℕ) → kept eqb eqb-true field-level 0 rows ≡ true → length rows ≡ 16
-    → (v d : ℕ) → getD rows (v / 4096 % 16) d ≡ level4444 v
-level-row rows t n v d = row eqb eqb-true field-level rows t (v / 4096 % 16) d (omega arith)
+    → (v d : ℕ) → getD rows (v % 16) d ≡ field-level (v % 16)
+level-row rows t n v d = row eqb eqb-true field-level rows t (v % 16) d (omega arith)

@@ -3,20 +3,22 @@ ghost use mathlib.Core.Path.{_≡_};
 ghost use Prim.Native.Nat.{ℕ, _+_, _-_, _*_, _/_, _%_, _^_, _<_, _≤_};
 ghost use Rattle.formats.specs.Packed.{format332, narrow332, format565, narrow565, format888, narrow888};
 ghost use Rattle.formats.specs.Depths.{depth-format, depth-narrow};
-ghost use Rattle.formats.specs.Overlays.{index-entry, format26, level26, format4444, level4444};
 
-mod table;
+mod overlays;
+mod tables;
 
 use colour::Canvas;
 use colour::Colour;
 use colour::FieldWidth;
-use colour::Overlay;
 use colour::Palette;
 use colour::Readable;
-use colour::colour_of_entry;
-use table::COLOURS;
-use table::FIELD_LEVELS;
-use table::INDEX_LEVELS;
+pub use overlays::Argb4444;
+pub use overlays::Argb4444Overlay;
+pub use overlays::Argb4444Readable;
+pub use overlays::Index26;
+pub use overlays::Index26Overlay;
+pub use overlays::Index26Readable;
+use tables::colour_in_table;
 
 #[derive(Clone, Copy, PartialEq, Eq, Debug)]
 pub struct Rgb332;
@@ -29,8 +31,7 @@ pub impl Readable for Rgb332 as Rgb332Readable {
     }
 
     fn colour(&self, _palette: &Palette, value: u32) -> Colour {
-        let table: &[Colour; 256] = &COLOURS;
-        table[(value % 256) as usize]
+        colour_in_table(value)
     }
 }
 
@@ -139,64 +140,5 @@ pub impl Canvas for Depth as DepthCanvas {
             Depth::Rgb565 => Rgb565.narrow(colour),
             Depth::Rgb888 => Rgb888.narrow(colour),
         }
-    }
-}
-
-// Index 2:6: bits 7-6 choose a level, bits 5-0 a palette entry.
-#[derive(Clone, Copy, PartialEq, Eq, Debug)]
-pub struct Index26;
-
-impl Index26 {
-    // The palette entry that a pixel value chooses.
-    pub fn entry_number(&self, value: u32) -> u8
-        ensures { λ r. ⌜ r ≡ index-entry value ⌝ }
-    {
-        (value % 64) as u8
-    }
-}
-
-pub impl Readable for Index26 as Index26Readable {
-    ghost format = { λ _. format26 };
-
-    fn bytes_per_pixel(&self) -> u8 {
-        1
-    }
-
-    fn colour(&self, palette: &Palette, value: u32) -> Colour {
-        palette.colour(self.entry_number(value))
-    }
-}
-
-pub impl Overlay for Index26 as Index26Overlay {
-    ghost levels = { λ _. level26 };
-
-    fn level(&self, value: u32) -> u8 {
-        let table: &[u8; 4] = &INDEX_LEVELS;
-        table[(value / 64 % 4) as usize]
-    }
-}
-
-// 4:4:4:4: bits 15-12 choose a level, bits 11-0 are a colour as in a palette entry.
-#[derive(Clone, Copy, PartialEq, Eq, Debug)]
-pub struct Argb4444;
-
-pub impl Readable for Argb4444 as Argb4444Readable {
-    ghost format = { λ _. format4444 };
-
-    fn bytes_per_pixel(&self) -> u8 {
-        2
-    }
-
-    fn colour(&self, _palette: &Palette, value: u32) -> Colour {
-        colour_of_entry((value % 4096) as u16)
-    }
-}
-
-pub impl Overlay for Argb4444 as Argb4444Overlay {
-    ghost levels = { λ _. level4444 };
-
-    fn level(&self, value: u32) -> u8 {
-        let table: &[u8; 16] = &FIELD_LEVELS;
-        table[(value / 4096 % 16) as usize]
     }
 }

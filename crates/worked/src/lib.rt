@@ -1,7 +1,6 @@
 // Worked examples: one table of values, each computed by the public calls.
 ghost use mathlib.Core.Path.{_≡_};
 ghost use Prim.Native.Nat.{ℕ, _≤_};
-
 use colour::Canvas;
 use colour::Colour;
 use colour::FieldWidth;
@@ -37,16 +36,20 @@ pub struct Worked {
 
 pub fn worked_examples() -> Worked
     ensures { λ r. ⌜ r ≡ record {
-        channel = 182;
-        colour = record { red = 255; green = 0; blue = 255 };
-        «in_565» = 0xFC08;
-        «in_332» = 0xF1;
-        entry = 0x234;
-        level = 21;
-        «entry_number» = 31;
+      channel = 182;
+      colour = record { red = 255; green = 0; blue = 255 };
+      «in_565» = 0xFC08;
+      «in_332» = 0xF1;
+      entry = 0x234;
+      level = 21;
+      «entry_number» = 31;
     } ⌝ }
 {
-    let orange = Colour { red: 255, green: 128, blue: 64 };
+    let orange = Colour {
+        red: 255,
+        green: 128,
+        blue: 64,
+    };
     Worked {
         channel: FieldWidth::Three.widen(5),
         colour: Rgb565.colour(&Palette::new(), 0xF81F),

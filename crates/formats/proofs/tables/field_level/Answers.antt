@@ -1,5 +1,5 @@
 use Rattle.formats.proofs.TableRule.{level-row}
-use Rattle.formats.proofs.Argb4444Overlay.level.Needs as need
+use Rattle.formats.proofs.tables.field_level.Needs as need
 
 pub returns : need.returns
 returns c = search level-row
