@@ -1,0 +1,4 @@
+pub mod Widths
+pub mod Channels
+pub mod Entries
+pub mod Formats
