@@ -1,0 +1,6 @@
+// Windows: rectangles of pixels within an image in display memory.
+mod bytes;
+mod pixels;
+mod window;
+pub use window::Window;
+pub use window::SIDE_LIMIT;
