@@ -39,7 +39,7 @@ from-next l i n h =
     ap (bytes-at l (2 + 2 * i)) e ∙ ap (λ x. with-first (byte-at l (2 + 2 * i)) (bytes-at l x (n - (i + 1)))) k
 
 pub from-some : (l bs : List ℕ) (i n b : ℕ) → i < n → i < length bs → byte-at l (2 + 2 * i) ≡ Some b
-  → prefixed (take (i + 1) (set bs i b)) (from l (i + 1) n) ≡ prefixed (take i bs) (from l i n)
+    → prefixed (take (i + 1) (set bs i b)) (from l (i + 1) n) ≡ prefixed (take i bs) (from l i n)
 from-some l bs i n b h k e =
     ap (λ x. prefixed x (from l (i + 1) n)) (take-more-set bs i b k)
     ∙ sym (moved (take i bs) b (from l (i + 1) n))

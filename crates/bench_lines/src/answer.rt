@@ -22,7 +22,11 @@ fn digit_of(value: u32) -> u8
     ensures { λ r. ⌜ r ≡ digit (value % 16) ⌝ }
 {
     let value = (value % 16) as u8;
-    if value < 10 { b'0' + value } else { b'A' + (value - 10) }
+    if value < 10 {
+        b'0' + value
+    } else {
+        b'A' + (value - 10)
+    }
 }
 
 fn byte_digits(value: u8) -> [u8; 2]
@@ -34,7 +38,12 @@ fn byte_digits(value: u8) -> [u8; 2]
 fn count_digits(value: u32) -> [u8; 4]
     ensures { λ r. ⌜ r ≡ hex-count value ⌝ }
 {
-    [digit_of(value / 4096), digit_of(value / 256), digit_of(value / 16), digit_of(value)]
+    [
+        digit_of(value / 4096),
+        digit_of(value / 256),
+        digit_of(value / 16),
+        digit_of(value),
+    ]
 }
 
 fn decimal_digits(value: u8) -> [u8; 2]

@@ -88,7 +88,9 @@ fn parse_run(line: &[u8]) -> Option<Command>
     }
     let high = byte_at(line, 2)?;
     let low = byte_at(line, 4)?;
-    Some(Command::Run { pixels: high as u16 * 256 + low as u16 })
+    Some(Command::Run {
+        pixels: high as u16 * 256 + low as u16,
+    })
 }
 
 fn parse_memory(line: &[u8]) -> Option<Command>
@@ -100,7 +102,9 @@ fn parse_memory(line: &[u8]) -> Option<Command>
     let high = byte_at(line, 2)?;
     let middle = byte_at(line, 4)?;
     let low = byte_at(line, 6)?;
-    Some(Command::Memory { address: high as u32 * 65536 + middle as u32 * 256 + low as u32 })
+    Some(Command::Memory {
+        address: high as u32 * 65536 + middle as u32 * 256 + low as u32,
+    })
 }
 
 fn parse_burst(line: &[u8]) -> Option<Command>

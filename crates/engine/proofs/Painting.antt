@@ -10,6 +10,6 @@ unfolding painted
 painted-none draw first m = refl
 
 pub painted-more : (draw : ℕ → List ℕ → List ℕ) (first i : ℕ) (m n o : List ℕ)
-  → n ≡ painted draw first i m → o ≡ draw (first + i) n → o ≡ painted draw first (i + 1) m
+    → n ≡ painted draw first i m → o ≡ draw (first + i) n → o ≡ painted draw first (i + 1) m
 unfolding painted
 painted-more draw first i m n o e f = rw (add-one i) (f ∙ ap (draw (first + i)) e)

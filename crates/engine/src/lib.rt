@@ -36,7 +36,13 @@ pub impl PixelRule for Fill as FillRule {
 }
 
 // Draws pixel k.
-fn plot<R: PixelRule, D: Canvas, M: Memory>(rule: &R, canvas: &D, target: &Window, memory: &mut M, k: u32)
+fn plot<R: PixelRule, D: Canvas, M: Memory>(
+    rule: &R,
+    canvas: &D,
+    target: &Window,
+    memory: &mut M,
+    k: u32,
+)
     ensures { λ _. ⌜ bytes (now (memory .exit)) ≡ plotted (D·Readable .format (now (canvas .entry))) (narrowed (now (canvas .entry))) (area-of (now (target .entry))) (yields (now (rule .entry))) k (bytes (now (memory .entry))) ⌝ }
 {
     if let Some(colour) = rule.colour_at(memory, k) {
@@ -45,7 +51,14 @@ fn plot<R: PixelRule, D: Canvas, M: Memory>(rule: &R, canvas: &D, target: &Windo
 }
 
 // Draws the pixels from `first` on, as many as are allowed and left, and answers how many that were.
-pub fn draw<R: PixelRule, D: Canvas, M: Memory>(rule: &R, canvas: &D, target: &Window, memory: &mut M, first: u32, allowance: u32) -> u32
+pub fn draw<R: PixelRule, D: Canvas, M: Memory>(
+    rule: &R,
+    canvas: &D,
+    target: &Window,
+    memory: &mut M,
+    first: u32,
+    allowance: u32,
+) -> u32
     ensures count { λ r. ⌜ r ≡ min allowance (pixels (area-of (now (target .entry))) - first) ⌝ }
     ensures after { λ r. ⌜ bytes (now (memory .exit)) ≡ painted (plotted (D·Readable .format (now (canvas .entry))) (narrowed (now (canvas .entry))) (area-of (now (target .entry))) (yields (now (rule .entry)))) first r (bytes (now (memory .entry))) ⌝ }
 {

@@ -31,7 +31,7 @@ limits image left top width height t = record {
 
 -- pixel k lies low enough that its address fits 60 bits
 pub offset-low : (top image left width b k : ℕ) → top ≤ 8191 → image ≤ 8191 → left ≤ 8191 → b ≤ 255 → k < 2 ^ 32
-  → ((top + k / width) * image + left + k % width) * b ≤ 9000000000000000
+    → ((top + k / width) * image + left + k % width) * b ≤ 9000000000000000
 offset-low top image left width b k ht hi hl hb hk =
     let d = div-le-self k width in
     let m = mod-le k width in
@@ -43,7 +43,10 @@ pub limits-of : (w : Window) → Limited (w .image) (w .left) (w .top) (w .width
 limits-of w = limits (w .image) (w .left) (w .top) (w .width) (w .height) (w .limited)
 
 pub pixel-low : (w : Window) (b k : ℕ) → b < 256 → k < 2 ^ 32
-  → ((w .top + k / w .width) * w .image + w .left + k % w .width) * b ≤ 9000000000000000
+    → ((w .top + k / w .width) * w .image + w .left + k % w .width) * b ≤ 9000000000000000
 pixel-low w b k hb hk =
     let l = limits-of w in
     offset-low (w .top) (w .image) (w .left) (w .width) b k (l .top-most) (l .image-most) (l .left-most) (omega arith) hk
+
+pub pixels-few : (w : Window) → w .width * w .height ≤ 67092481
+pixels-few w = let l = limits-of w in let h = l .inside in let i = l .image-most in mul-le (w .width) (w .height) 8191 8191 (omega arith) (l .height-most)

@@ -2,5 +2,6 @@
 mod bytes;
 mod pixels;
 mod window;
-pub use window::Window;
+
 pub use window::SIDE_LIMIT;
+pub use window::Window;

@@ -4,8 +4,10 @@ ghost use Prim.Native.Nat.{ℕ, _+_, _*_, _^_, _<_, _≤_};
 ghost use Rattle.window.specs.Limits.{side, within};
 ghost use Rattle.window.specs.Places.{Area, area-of, window-at, shown, pixels, place, reach};
 ghost use Rattle.window.specs.Values.{value-at, stored};
-use crate::bytes::{byte_at, put_byte};
-use crate::window::{Window, SIDE_LIMIT};
+use crate::bytes::byte_at;
+use crate::bytes::put_byte;
+use crate::window::SIDE_LIMIT;
+use crate::window::Window;
 use colour::Readable;
 use memory::Memory;
 use refusal::Refusal;
@@ -30,13 +32,28 @@ fn is_within(limit: u16, image: u16, left: u16, top: u16, width: u16, height: u1
 
 impl Window {
     // A window, or a refusal where a number lies outside the limits.
-    pub fn new(limit: u16, start: u32, image: u16, left: u16, top: u16, width: u16, height: u16) -> Result<Window, Refusal>
+    pub fn new(
+        limit: u16,
+        start: u32,
+        image: u16,
+        left: u16,
+        top: u16,
+        width: u16,
+        height: u16,
+    ) -> Result<Window, Refusal>
         ensures { λ r. ⌜ shown r ≡ window-at limit (record { start = start; image = image; left = left; top = top; width = width; height = height }) ⌝ }
     {
         if !is_within(limit, image, left, top, width, height) {
             return Err(Refusal::OutsideWindowLimits);
         }
-        Ok(Window { start, image, left, top, width, height })
+        Ok(Window {
+            start,
+            image,
+            left,
+            top,
+            width,
+            height,
+        })
     }
 
     pub fn width(&self) -> u16
@@ -112,6 +129,11 @@ impl Window {
         ensures { λ _. ⌜ M·Memory .bytes (now (memory .exit)) ≡ stored (M·Memory .bytes (now (memory .entry))) (place (area-of (now (self .entry))) (F·Readable .format (now (format .entry)) .width) k) (F·Readable .format (now (format .entry)) .width) value ⌝ }
     {
         let bytes_per_pixel = format.bytes_per_pixel();
-        write_value(memory, self.address(bytes_per_pixel, k), bytes_per_pixel, value);
+        write_value(
+            memory,
+            self.address(bytes_per_pixel, k),
+            bytes_per_pixel,
+            value,
+        );
     }
 }

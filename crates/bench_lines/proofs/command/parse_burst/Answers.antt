@@ -44,7 +44,7 @@ returns c =
     let few : n ≡ min 32 n = omega arith in
     let none : n - n ≡ 0 = omega arith in
     let all : Some (take n bs) ≡ bytes-at l 2 n =
-      ap Some (sym (append-nil (take n bs))) ∙ ap (λ k. prefixed (take n bs) (bytes-at l (2 + 2 * n) k)) (sym none)
-      ∙ ap (λ i. prefixed (take i bs) (from l i n)) (sym end) ∙ c .loop-i .inv .1 in
+    ap Some (sym (append-nil (take n bs))) ∙ ap (λ k. prefixed (take n bs) (bytes-at l (2 + 2 * n) k)) (sym none)
+    ∙ ap (λ i. prefixed (take i bs) (from l i n)) (sym end) ∙ c .loop-i .inv .1 in
     let shaped = burst-shaped l (omega arith) (omega arith) (omega arith) (sym (c .if-not-is-space .ensures tt)) in
     ap (λ k. Some (burst (take k bs))) (sym few) ∙ ap as-burst all ∙ sym shaped
