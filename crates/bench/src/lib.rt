@@ -2,16 +2,17 @@
 ghost use mathlib.Core.Path.{_≡_};
 ghost use mathlib.Core.List.{List, [], _∷_, _++_};
 ghost use Prim.Native.Nat.{ℕ, _<_, _≤_};
+ghost use lib.ListN.{replicate};
 ghost use Rattle.std.specs.Of.Vec.{vec-items};
 ghost use Rattle.std.specs.Vec.{made};
 ghost use Rattle.refusal.specs.Numbers.{numbered};
-ghost use Rattle.panel.specs.State.{seen};
+ghost use Rattle.panel.specs.State.{seen, fresh};
 ghost use Rattle.bench_lines.specs.Commands.{call-of, command-of};
 ghost use Rattle.bench_lines.specs.Answers.{reply-of};
 ghost use Rattle.bench.specs.Replies.{done-reply, count-reply, byte-reply, call-reply, call-after, line-reply, line-after};
-ghost use Rattle.bench.specs.Scripts.{lines, Replayed};
+ghost use Rattle.bench.specs.Scripts.{lines, transcript, Replayed};
 use bench_lines::{Answer, Command};
-use memory::Memory;
+use memory::{ByteBoard, ByteBoardMemory, Memory};
 use panel::Panel;
 use refusal::Refusal;
 use std::alloc::AllocError;
@@ -82,4 +83,16 @@ pub fn replay<M: Memory>(panel: &mut Panel<M>, input: &[u8], out: &mut Vec<u8>) 
         }
     }
     Ok(())
+}
+
+// The bytes of display memory on the bench.
+const MEMORY: usize = 4096;
+
+// What the program does: a new panel over 4,096 zero bytes obeys the input.
+pub fn run(input: &[u8], out: &mut Vec<u8>) -> Result<(), AllocError>
+    ensures { λ r. ⌜ made r (λ _. vec-items (now (out .exit)) ≡ vec-items (now (out .entry)) ++ transcript (fresh (replicate 4096 0)) (lines (now (input .entry)))) ⌝ }
+{
+    let mut block = [0u8; MEMORY];
+    let mut panel = Panel::new(ByteBoard::new(&mut block));
+    replay(&mut panel, input, out)
 }

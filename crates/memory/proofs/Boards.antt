@@ -4,12 +4,13 @@ use mathlib.Core.List.{List}
 use mathlib.Core.Logic.{⊎-elim}
 use Prim.Native.Nat.{ℕ, _<_, _≤_, _%_, _/_, _+_, _*_, min}
 use native.Mathlib.Omega.{arith}
-use lib.ListN.{length, getD, set}
+use lib.ListN.{length, getD, set, replicate}
+use lib.Dec.{lit<}
 use Rattle.std.proofs.shelf.Ways.{tells}
 use Rattle.std.proofs.shelf.Tests.{cases-eq}
-use Rattle.std.proofs.shelf.Lists.{length-set, getD-set-same, getD-set-other}
+use Rattle.std.proofs.shelf.Lists.{length-set, getD-set-same, getD-set-other, ext-getD, length-replicate, getD-replicate}
 use Rattle.memory.specs.Bytes.{view}
-use Rattle.memory.specs.View.{view-put, view-length}
+use Rattle.memory.specs.View.{view-put, view-length, view-at}
 use Rattle.memory.specs.Boards.{half, with-half, of-words, of-bytes, in-words}
 
 pub bytes-length : (bs : List ℕ) → length (of-bytes bs) ≡ min 16777216 (length bs)
@@ -44,3 +45,13 @@ words-put ws a v h fits =
     ∙ half-there w a v k fits e ne ∙ ap (λ i. half (getD ws i 0) k) (sym e))
     (λ apart. ap (λ x. half x k) (getD-set-other ws (a / 2) (k / 2) new 0 apart))
     (cases-eq (k / 2) (a / 2))))
+
+-- a block of zero bytes shows zero bytes
+pub bytes-zero : (n : ℕ) → n ≤ 16777216 → of-bytes (replicate n 0) ≡ replicate n 0
+bytes-zero n h =
+    let zs : List ℕ = replicate n 0 in
+    let long = bytes-length zs in
+    let all : length zs ≡ n = length-replicate n 0 in
+    let same : length (of-bytes zs) ≡ length zs = omega arith in
+    ext-getD 0 (of-bytes zs) zs same
+    (λ k in′. view-at (min 16777216 (length zs)) (λ i. getD zs i 0) k (omega arith) (let in″ : k < n = omega arith in rw (getD-replicate {A = ℕ} n k 0 0 in″) (lit< tt)))
