@@ -71,7 +71,7 @@ module _ (s : State) (xs before : List ℕ) (start i : ℕ) (t : State) (out : L
       }
 
   pub going-here : (t′ : State) (out′ line : List ℕ) → getD xs i 0 ≡ 10 → line ≡ begun xs start i
-    → t′ ≡ line-after t (command-of line) → out′ ≡ out ++ reply-line (line-reply t (command-of line)) → Going s xs before (i + 1) (i + 1) t′ out′
+      → t′ ≡ line-after t (command-of line) → out′ ≡ out ++ reply-line (line-reply t (command-of line)) → Going s xs before (i + 1) (i + 1) t′ out′
   unfolding transcript end-of
   going-here t′ out′ line e l p q =
       let r = rest xs (i + 1) (i + 1) in
@@ -80,9 +80,9 @@ module _ (s : State) (xs before : List ℕ) (start i : ℕ) (t : State) (out : L
       record {
         order = omega arith;
         answers =
-          ap (λ x. x ++ transcript t′ r) q ∙ ap (λ x. (out ++ reply-line (line-reply t (command-of line))) ++ transcript x r) p
-          ∙ append-assoc out (reply-line (line-reply t (command-of line))) (transcript (line-after t (command-of line)) r)
-          ∙ ap (λ x. out ++ transcript t x) (sym whole) ∙ g .answers;
+            ap (λ x. x ++ transcript t′ r) q ∙ ap (λ x. (out ++ reply-line (line-reply t (command-of line))) ++ transcript x r) p
+            ∙ append-assoc out (reply-line (line-reply t (command-of line))) (transcript (line-after t (command-of line)) r)
+            ∙ ap (λ x. out ++ transcript t x) (sym whole) ∙ g .answers;
         panel = ap (λ x. end-of x r) p ∙ ap (end-of t) (sym whole) ∙ g .panel;
       }
 

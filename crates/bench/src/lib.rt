@@ -11,8 +11,11 @@ ghost use Rattle.bench_lines.specs.Commands.{call-of, command-of};
 ghost use Rattle.bench_lines.specs.Answers.{reply-of};
 ghost use Rattle.bench.specs.Replies.{done-reply, count-reply, byte-reply, call-reply, call-after, line-reply, line-after};
 ghost use Rattle.bench.specs.Scripts.{lines, transcript, Replayed};
-use bench_lines::{Answer, Command};
-use memory::{ByteBoard, ByteBoardMemory, Memory};
+use bench_lines::Answer;
+use bench_lines::Command;
+use memory::ByteBoard;
+use memory::ByteBoardMemory;
+use memory::Memory;
 use panel::Panel;
 use refusal::Refusal;
 use std::alloc::AllocError;
@@ -72,7 +75,11 @@ pub fn respond<M: Memory>(panel: &mut Panel<M>, line: &[u8]) -> Answer
 }
 
 // Obeys every line of an input and writes its answers. It fails only for want of memory for them.
-pub fn replay<M: Memory>(panel: &mut Panel<M>, input: &[u8], out: &mut Vec<u8>) -> Result<(), AllocError>
+pub fn replay<M: Memory>(
+    panel: &mut Panel<M>,
+    input: &[u8],
+    out: &mut Vec<u8>,
+) -> Result<(), AllocError>
     ensures { λ r. ⌜ made r (λ _. Replayed (seen bytes (now (panel .entry))) (lines (now (input .entry))) (vec-items (now (out .entry))) (seen bytes (now (panel .exit))) (vec-items (now (out .exit)))) ⌝ }
 {
     let mut start = 0;

@@ -1,7 +1,8 @@
 // Obeys the lines on standard input, at most 65,536 bytes of them, and writes an answer for each.
 use bench::run;
 use std::error::AnyError;
-use std::io::{Read, Write};
+use std::io::Read;
+use std::io::Write;
 
 const MOST_INPUT: u64 = 65_536;
 

@@ -62,7 +62,7 @@ impl Begun {
     pub fn drawn(&self) -> u32
         ensures { λ r. ⌜ r ≡ work-of (now (self .entry)) .drawn ⌝ }
     {
-        self.drawn
+        self.drawn // the next pixel's number
     }
 
     // How many pixels are left.

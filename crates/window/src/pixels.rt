@@ -56,12 +56,6 @@ impl Window {
         })
     }
 
-    pub fn width(&self) -> u16
-        ensures { λ r. ⌜ r ≡ area-of (now (self .entry)) .width ⌝ }
-    {
-        self.width
-    }
-
     // How many pixels the window has.
     pub fn pixels(&self) -> u32
         ensures { λ r. ⌜ r ≡ pixels (area-of (now (self .entry))) ⌝ }
