@@ -5,7 +5,9 @@ use mathlib.Core.Bool.{Bool, true, false, cond, _&&_}
 use Prim.Native.Nat.{ℕ, zero, suc, _+_, _-_, _*_, _/_, _%_, _<_, _≤_}
 use native.Mathlib.Omega.{arith}
 use lib.ListN.{length, getD, drop}
-use lib.Dec.{eqb, leb}
+use native.Mathlib.Nat.{add-zero}
+use Rattle.std.proofs.shelf.Lists.{getD-drop, drop-drop}
+use Rattle.bench_lines.proofs.Bursts.{burst-shaped}
 use Rattle.std.specs.shelf.Lists.{All, joined}
 use Rattle.std.specs.declared.option.Option.{Option}
 use Rattle.std.specs.declared.option.Option.the-variants.{Some, None}
@@ -52,3 +54,33 @@ memory-back n h =
     ∙ ap (λ o. both-of (λ h d. memory (h * 256 + d)) (both-of (λ h d. h * 256 + d) (Some (n / 65536)) o) (byte-at l 6)) y
     ∙ ap (both-of (λ h d. memory (h * 256 + d)) (Some (n / 65536 * 256 + n / 256 % 256))) z
     ∙ ap (λ n. Some (memory n)) whole
+
+bytes-back : (l : List ℕ) (k : ℕ) (bs : List ℕ) → All (λ b. b < 256) bs → drop k l ≡ joined hex-byte bs → bytes-at l k (length bs) ≡ Some bs
+bytes-back l k [] h e = refl
+bytes-back l k (b ∷ bs) h e =
+    let high : getD l k 0 ≡ digit (b / 16 % 16) = ap (λ i. getD l i 0) (sym (add-zero k)) ∙ sym (getD-drop k l 0 0) ∙ ap (λ t. getD t 0 0) e in
+    let low : getD l (k + 1) 0 ≡ digit (b % 16) = sym (getD-drop k l 1 0) ∙ ap (λ t. getD t 1 0) e in
+    let x = byte-reads l k b (h .0) high low in
+    let rest = bytes-back l (k + 2) bs (h .1) (sym (drop-drop 2 k l) ∙ ap (drop 2) e) in
+    ap (λ o. with-first o (bytes-at l (k + 2) (length bs))) x ∙ ap (with-first (Some b)) rest
+
+length-digits : (bs : List ℕ) → length (joined hex-byte bs) ≡ 2 * length bs
+length-digits [] = refl
+length-digits (b ∷ bs) = let e = length-digits bs in omega arith
+
+burst-back : (bs : List ℕ) → 1 ≤ length bs → length bs ≤ 32 → All (λ b. b < 256) bs → command-of (spelled (burst bs)) ≡ Some (burst bs)
+burst-back bs low high each =
+    let l = spelled (burst bs) in
+    let e = length-digits bs in
+    let count : (length l - 2) / 2 ≡ length bs = omega arith in
+    burst-shaped l (omega arith) (omega arith) (omega arith) refl ∙ ap (λ n. as-burst (bytes-at l 2 n)) count
+    ∙ ap as-burst (bytes-back l 2 bs each refl)
+
+pub reads-back : (c : Call) → Sayable c → command-of (spelled c) ≡ Some c
+reads-back (write r v) h = write-back r v (h .0) (h .1)
+reads-back (read r) h = read-back r h
+reads-back (burst bs) h = burst-back bs (h .0) (h .1) (h .2)
+reads-back (run n) h = run-back n h
+reads-back stop h = refl
+reads-back status h = refl
+reads-back (memory a) h = memory-back a h

@@ -12,7 +12,8 @@ use Rattle.std.proofs.shelf.Lists.{drop-more}
 use Rattle.std.specs.declared.option.Option.{Option}
 use Rattle.std.specs.declared.option.Option.the-variants.{Some, None}
 use Rattle.bench_lines.specs.Digits.{digit-value, both-of, byte-at, spaced}
-use Rattle.bench_lines.specs.Answers.{digit, hex-byte}
+use Rattle.bench_lines.specs.Answers.{digit, hex-byte, hex-count}
+use Rattle.bench_lines.specs.Spelling.{hex-address}
 
 pub none-some : {A : Type 0} (x : A) → None ≡ Some x → ⊥
 none-some x e = let z : _≡_ {A = ℕ} 0 1 = cc in omega arith
@@ -58,3 +59,24 @@ byte-reads l k b h x y =
     ap (λ o. both-of (λ h d. h * 16 + d) o (digit-value (getD l (k + 1) 0))) p
     ∙ ap (both-of (λ h d. h * 16 + d) (Some (b / 16 % 16))) q
     ∙ ap Some whole
+
+-- four digits are two bytes, six are three
+pub count-bytes : (h d : ℕ) → h < 256 → d < 256 → hex-count (h * 256 + d) ≡ hex-byte h ++ hex-byte d
+count-bytes h d p q =
+    let v = h * 256 + d in
+    let d₃ : v / 4096 % 16 ≡ h / 16 % 16 = omega arith in
+    let d₂ : v / 256 % 16 ≡ h % 16 = omega arith in
+    let d₁ : v / 16 % 16 ≡ d / 16 % 16 = omega arith in
+    let d₀ : v % 16 ≡ d % 16 = omega arith in
+    rw (d₃, d₂, d₁, d₀)
+
+pub address-bytes : (h m d : ℕ) → h < 256 → m < 256 → d < 256 → hex-address ((h * 256 + m) * 256 + d) ≡ hex-byte h ++ hex-byte m ++ hex-byte d
+address-bytes h m d p q r =
+    let v = (h * 256 + m) * 256 + d in
+    let d₅ : v / 65536 / 16 % 16 ≡ h / 16 % 16 = omega arith in
+    let d₄ : v / 65536 % 16 ≡ h % 16 = omega arith in
+    let d₃ : v / 4096 % 16 ≡ m / 16 % 16 = omega arith in
+    let d₂ : v / 256 % 16 ≡ m % 16 = omega arith in
+    let d₁ : v / 16 % 16 ≡ d / 16 % 16 = omega arith in
+    let d₀ : v % 16 ≡ d % 16 = omega arith in
+    rw (d₅, d₄, d₃, d₂, d₁, d₀)
