@@ -15,7 +15,7 @@ use Rattle.std.specs.declared.option.Option.the-variants.{Some, None}
 use Rattle.bench_lines.specs.Digits.{both-of, byte-at, spaced}
 use Rattle.bench_lines.specs.Answers.{digit, hex-byte}
 use Rattle.bench_lines.specs.Commands.{Call, write, read, burst, run, stop, status, memory, command-of, bytes-at, as-burst, with-first, write-line, read-register, run-line, memory-line, burst-line, alone}
-use Rattle.bench_lines.specs.Spelling.{spelled, Sayable, hex-address}
+use Rattle.bench_lines.specs.Spelling.{spelled, Sayable}
 use Rattle.bench_lines.proofs.Fields.{none-some, cond-some, both-some, space-spelled, byte-spelled, count-bytes, address-bytes}
 
 abbrev pub Spells : List ℕ → Call → Type 0
@@ -78,23 +78,28 @@ run-only l c w e =
     let tail = gap ∙ ap (λ t. 32 ∷ t) (body ∙ sym (count-bytes (q .0) (q .1) (x .1) (y .1))) in
     subst (Spells l) (q .4) (first ∙ ap (λ t. 71 ∷ t) tail, omega arith)
 
+memory-spelled : (l : List ℕ) (h m d : ℕ) → length l ≡ 8 → getD l 0 0 ≡ 77 → spaced l 1 ≡ true
+    → byte-at l 2 ≡ Some h → byte-at l 4 ≡ Some m → byte-at l 6 ≡ Some d → Spells l (memory ((h * 256 + m) * 256 + d))
+memory-spelled l h m d n w s i j k =
+    let x = byte-spelled l 2 h (omega arith) i in
+    let y = byte-spelled l 4 m (omega arith) j in
+    let z = byte-spelled l 6 d (omega arith) k in
+    let first = letter l 77 (omega arith) w in
+    let gap = space-spelled l 1 (omega arith) s in
+    let end = drop-all 8 l (omega arith) in
+    let body = x .0 ∙ ap (λ t. hex-byte h ++ t) (y .0 ∙ ap (λ t. hex-byte m ++ t) (z .0 ∙ ap (λ t. hex-byte d ++ t) end)) in
+    let tail = gap ∙ ap (λ t. 32 ∷ t) (body ∙ sym (address-bytes h m d (x .1) (y .1) (z .1))) in
+    (first ∙ ap (λ t. 77 ∷ t) tail, omega arith)
+
 memory-only : (l : List ℕ) (c : Call) → getD l 0 0 ≡ 77 → memory-line l ≡ Some c → Spells l c
 memory-only l c w e =
-    let p = cond-some (eqb (length l) 8 && spaced l 1) (both-of (λ h d. memory (h * 256 + d)) (both-of (λ h d. h * 256 + d) (byte-at l 2) (byte-at l 4)) (byte-at l 6)) c e in
+    let both = both-of (λ h d. h * 256 + d) (byte-at l 2) (byte-at l 4) in
+    let p = cond-some (eqb (length l) 8 && spaced l 1) (both-of (λ h d. memory (h * 256 + d)) both (byte-at l 6)) c e in
     let t = and-parts (eqb (length l) 8) (spaced l 1) (p .0) in
-    let n = eqb-true (length l) 8 (t .0) in
-    let q = both-some (λ h d. memory (h * 256 + d)) (both-of (λ h d. h * 256 + d) (byte-at l 2) (byte-at l 4)) (byte-at l 6) c (p .1) in
+    let q = both-some (λ h d. memory (h * 256 + d)) both (byte-at l 6) c (p .1) in
     let m = both-some (λ h d. h * 256 + d) (byte-at l 2) (byte-at l 4) (q .0) (q .2) in
-    let x = byte-spelled l 2 (m .0) (omega arith) (m .2) in
-    let y = byte-spelled l 4 (m .1) (omega arith) (m .3) in
-    let z = byte-spelled l 6 (q .1) (omega arith) (q .3) in
-    let first = letter l 77 (omega arith) w in
-    let gap = space-spelled l 1 (omega arith) (t .1) in
-    let end = drop-all 8 l (omega arith) in
-    let body = x .0 ∙ ap (λ t. hex-byte (m .0) ++ t) (y .0 ∙ ap (λ t. hex-byte (m .1) ++ t) (z .0 ∙ ap (λ t. hex-byte (q .1) ++ t) end)) in
-    let digits = body ∙ sym (address-bytes (m .0) (m .1) (q .1) (x .1) (y .1) (z .1)) ∙ ap (λ h. hex-address (h * 256 + q .1)) (m .4) in
-    let tail = gap ∙ ap (λ t. 32 ∷ t) digits in
-    subst (Spells l) (q .4) (first ∙ ap (λ t. 77 ∷ t) tail, omega arith)
+    let spells = memory-spelled l (m .0) (m .1) (q .1) (eqb-true (length l) 8 (t .0)) w (t .1) (m .2) (m .3) (q .3) in
+    subst (Spells l) (q .4) (subst (λ h. Spells l (memory (h * 256 + q .1))) (m .4) spells)
 
 first-some : (x : Option ℕ) (o : Option (List ℕ)) (bs : List ℕ) → with-first x o ≡ Some bs
     → (b : ℕ) × (rest : List ℕ) × (x ≡ Some b) × (o ≡ Some rest) × (b ∷ rest ≡ bs)
