@@ -91,15 +91,19 @@ memory-spelled l h m d n w s i j k =
     let tail = gap ∙ ap (λ t. 32 ∷ t) (body ∙ sym (address-bytes h m d (x .1) (y .1) (z .1))) in
     (first ∙ ap (λ t. 77 ∷ t) tail, omega arith)
 
+memory-halves : (l : List ℕ) (h d : ℕ) → length l ≡ 8 → getD l 0 0 ≡ 77 → spaced l 1 ≡ true
+    → both-of (λ h d. h * 256 + d) (byte-at l 2) (byte-at l 4) ≡ Some h → byte-at l 6 ≡ Some d → Spells l (memory (h * 256 + d))
+memory-halves l h d n w s i k =
+    let m = both-some (λ h d. h * 256 + d) (byte-at l 2) (byte-at l 4) h i in
+    subst (λ h. Spells l (memory (h * 256 + d))) (m .4) (memory-spelled l (m .0) (m .1) d n w s (m .2) (m .3) k)
+
 memory-only : (l : List ℕ) (c : Call) → getD l 0 0 ≡ 77 → memory-line l ≡ Some c → Spells l c
 memory-only l c w e =
     let both = both-of (λ h d. h * 256 + d) (byte-at l 2) (byte-at l 4) in
     let p = cond-some (eqb (length l) 8 && spaced l 1) (both-of (λ h d. memory (h * 256 + d)) both (byte-at l 6)) c e in
     let t = and-parts (eqb (length l) 8) (spaced l 1) (p .0) in
     let q = both-some (λ h d. memory (h * 256 + d)) both (byte-at l 6) c (p .1) in
-    let m = both-some (λ h d. h * 256 + d) (byte-at l 2) (byte-at l 4) (q .0) (q .2) in
-    let spells = memory-spelled l (m .0) (m .1) (q .1) (eqb-true (length l) 8 (t .0)) w (t .1) (m .2) (m .3) (q .3) in
-    subst (Spells l) (q .4) (subst (λ h. Spells l (memory (h * 256 + q .1))) (m .4) spells)
+    subst (Spells l) (q .4) (memory-halves l (q .0) (q .1) (eqb-true (length l) 8 (t .0)) w (t .1) (q .2) (q .3))
 
 first-some : (x : Option ℕ) (o : Option (List ℕ)) (bs : List ℕ) → with-first x o ≡ Some bs
     → (b : ℕ) × (rest : List ℕ) × (x ≡ Some b) × (o ≡ Some rest) × (b ∷ rest ≡ bs)

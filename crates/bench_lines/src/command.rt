@@ -6,15 +6,25 @@ ghost use Prim.Native.Nat.{ℕ, _+_, _*_, _<_, _≤_};
 ghost use lib.ListN.{length, getD};
 ghost use lib.Dec.{eqb};
 ghost use Rattle.bench_lines.specs.Digits.{digit-value, byte-at, spaced};
-ghost use Rattle.bench_lines.specs.Commands.{Call, meant, write-line, read-register, burst-line, run-line, memory-line, alone, call-of, command-of};
+ghost use Rattle.bench_lines.specs.Commands.{Call, sent, meant, write-line, read-register, burst-line, run-line, memory-line, alone, call-of, command-of};
 ghost use Rattle.bench_lines.specs.Spelling.{spelled, Sayable};
 ghost use Rattle.std.specs.declared.option.Option.the-variants.{Some};
 
 // What a burst line sends: 1 to 32 bytes.
 #[derive(Clone, Copy)]
 pub struct Payload {
-    pub bytes: [u8; 32],
-    pub count: usize,
+    bytes: [u8; 32],
+    count: usize,
+}
+
+impl Payload {
+    // The bytes that are sent, in their order.
+    pub fn bytes(&self) -> &[u8]
+        ensures { λ r. ⌜ now r ≡ sent (now (self .entry)) ⌝ }
+    {
+        let count = if self.count < 32 { self.count } else { 32 };
+        &self.bytes[..count]
+    }
 }
 
 #[derive(Clone, Copy)]
