@@ -2,8 +2,8 @@
 use mathlib.Core.Path.{_≡_, refl, sym, ap, subst, _∙_}
 use mathlib.Core.List.{List, [], _∷_, _++_}
 use mathlib.Core.Logic.{_⊎_, inl, inr, ⊎-elim}
-use mathlib.Core.Bool.{Bool, true, false, cond, _&&_}
-use Prim.Native.Nat.{ℕ, zero, suc, _+_, _-_, _*_, _/_, _%_, _<_, _≤_}
+use mathlib.Core.Bool.{true, cond, _&&_}
+use Prim.Native.Nat.{ℕ, zero, suc, _+_, _-_, _*_, _/_, _%_, _<_}
 use native.Mathlib.Omega.{arith}
 use lib.ListN.{length, getD, drop}
 use lib.Dec.{eqb, leb}
@@ -13,11 +13,12 @@ use Rattle.std.proofs.shelf.Lists.{drop-more, drop-all}
 use Rattle.std.specs.declared.option.Option.{Option}
 use Rattle.std.specs.declared.option.Option.the-variants.{Some, None}
 use Rattle.bench_lines.specs.Digits.{both-of, byte-at, spaced}
-use Rattle.bench_lines.specs.Answers.{digit, hex-byte}
+use Rattle.bench_lines.specs.Answers.{hex-byte}
 use Rattle.bench_lines.specs.Commands.{Call, write, read, burst, run, stop, status, memory, command-of, bytes-at, as-burst, with-first, write-line, read-register, run-line, memory-line, burst-line, alone}
 use Rattle.bench_lines.specs.Spelling.{spelled, Sayable}
 use Rattle.bench_lines.proofs.Fields.{none-some, cond-some, both-some, space-spelled, byte-spelled, count-bytes, address-bytes}
 
+-- a line is a call's spelling, and the call can be written
 abbrev pub Spells : List ℕ → Call → Type 0
 Spells l c = (l ≡ spelled c) × Sayable c
 
@@ -147,6 +148,7 @@ burst-only l c w e =
     let whole : l ≡ spelled (burst (q .0)) = cc in
     subst (Spells l) (q .2) (whole, (omega arith, omega arith, d .2))
 
+-- where a letter is tested, either it is there or the next tests choose
 choice : (x y : ℕ) (o u : Option Call) (c : Call) → cond (eqb x y) o u ≡ Some c → ((x ≡ y) × (o ≡ Some c)) ⊎ (u ≡ Some c)
 choice x y o u c e = ⊎-elim (λ t. inl (eqb-true x y t, sym (cond-true (eqb x y) o u t) ∙ e)) (λ t. inr (sym (cond-false (eqb x y) o u t) ∙ e)) (cases-bool (eqb x y))
 

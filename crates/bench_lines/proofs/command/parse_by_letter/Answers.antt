@@ -1,13 +1,9 @@
 use mathlib.Core.Path.{_≡_}
-use mathlib.Core.List.{List}
-use Prim.Native.Nat.{ℕ}
 use native.Mathlib.Omega.{arith}
 use lib.ListN.{getD}
 use lib.Dec.{eqb}
 use mathlib.Core.Bool.{false}
-use Rattle.std.specs.declared.option.Option.the-variants.{None}
 use Rattle.std.proofs.shelf.Tests.{ne-eqb}
-use Rattle.bench_lines.specs.Commands.{command-of}
 use Rattle.bench_lines.proofs.command.parse_by_letter.Needs as need
 
 pub returns-in-rest : need.returns-in-rest

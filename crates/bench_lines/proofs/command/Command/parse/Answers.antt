@@ -10,5 +10,5 @@ returns c =
     record {
       meaning = is;
       spelling = λ k e. spelled-only (c .args .line .now) k (sym is ∙ e);
-      complete = λ k s e. is ∙ ap command-of e ∙ reads-back k s
+      complete = λ k s e. is ∙ ap command-of e ∙ reads-back k s;
     }
