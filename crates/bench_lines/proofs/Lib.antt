@@ -1,1 +1,4 @@
 pub mod Bursts
+pub mod Fields
+pub mod Complete
+pub mod Only

@@ -1,3 +1,4 @@
 pub mod Digits
 pub mod Commands
 pub mod Answers
+pub mod Spelling

@@ -6,13 +6,25 @@ ghost use Prim.Native.Nat.{ℕ, _+_, _*_, _<_, _≤_};
 ghost use lib.ListN.{length, getD};
 ghost use lib.Dec.{eqb};
 ghost use Rattle.bench_lines.specs.Digits.{digit-value, byte-at, spaced};
-ghost use Rattle.bench_lines.specs.Commands.{meant, write-line, read-register, burst-line, run-line, memory-line, alone, call-of, command-of};
+ghost use Rattle.bench_lines.specs.Commands.{Call, sent, meant, write-line, read-register, burst-line, run-line, memory-line, alone, call-of, command-of};
+ghost use Rattle.bench_lines.specs.Spelling.{spelled, Sayable};
+ghost use Rattle.std.specs.declared.option.Option.the-variants.{Some};
 
 // What a burst line sends: 1 to 32 bytes.
 #[derive(Clone, Copy)]
 pub struct Payload {
-    pub bytes: [u8; 32],
-    pub count: usize,
+    bytes: [u8; 32],
+    count: usize,
+}
+
+impl Payload {
+    // The bytes that are sent, in their order.
+    pub fn bytes(&self) -> &[u8]
+        ensures { λ r. ⌜ now r ≡ sent (now (self .entry)) ⌝ }
+    {
+        let count = if self.count < 32 { self.count } else { 32 };
+        &self.bytes[..count]
+    }
 }
 
 #[derive(Clone, Copy)]
@@ -128,20 +140,29 @@ fn parse_alone(line: &[u8], command: Command) -> Option<Command>
     if line.len() == 1 { Some(command) } else { None }
 }
 
+fn parse_by_letter(line: &[u8]) -> Option<Command>
+    ensures { λ r. ⌜ meant r ≡ command-of (now (line .entry)) ⌝ }
+{
+    match character(line, 0) as char {
+        'W' => parse_write(line),
+        'R' => parse_read(line),
+        'B' => parse_burst(line),
+        'G' => parse_run(line),
+        'X' => parse_alone(line, Command::Stop),
+        'S' => parse_alone(line, Command::Status),
+        'M' => parse_memory(line),
+        _ => None,
+    }
+}
+
 impl Command {
-    // The command that a line is, or none where it is malformed.
+    // The command that a line is, or none where it is malformed: a line is a command exactly where it is the command's
+    // spelling.
     pub fn parse(line: &[u8]) -> Option<Command>
-        ensures { λ r. ⌜ meant r ≡ command-of (now (line .entry)) ⌝ }
+        ensures meaning { λ r. ⌜ meant r ≡ command-of (now (line .entry)) ⌝ }
+        ensures spelling { λ r. ⌜ ((c : Call) → meant r ≡ Some c → (now (line .entry) ≡ spelled c) × Sayable c) ⌝ }
+        ensures complete { λ r. ⌜ ((c : Call) → Sayable c → now (line .entry) ≡ spelled c → meant r ≡ Some c) ⌝ }
     {
-        match character(line, 0) as char {
-            'W' => parse_write(line),
-            'R' => parse_read(line),
-            'B' => parse_burst(line),
-            'G' => parse_run(line),
-            'X' => parse_alone(line, Command::Stop),
-            'S' => parse_alone(line, Command::Status),
-            'M' => parse_memory(line),
-            _ => None,
-        }
+        parse_by_letter(line)
     }
 }

@@ -1,24 +1,14 @@
-use mathlib.Core.Path.{_≡_}
-use mathlib.Core.List.{List}
-use Prim.Native.Nat.{ℕ}
-use native.Mathlib.Omega.{arith}
-use lib.ListN.{getD}
-use lib.Dec.{eqb}
-use mathlib.Core.Bool.{false}
-use Rattle.std.specs.declared.option.Option.the-variants.{None}
-use Rattle.std.proofs.shelf.Tests.{ne-eqb}
+use mathlib.Core.Path.{sym, ap, _∙_}
 use Rattle.bench_lines.specs.Commands.{command-of}
+use Rattle.bench_lines.proofs.Only.{spelled-only}
+use Rattle.bench_lines.proofs.Complete.{reads-back}
 use Rattle.bench_lines.proofs.command.Command.parse.Needs as need
 
-pub returns-in-rest : need.returns-in-rest
-returns-in-rest c =
-    let l = c .args .line .now in
-    let x = getD l 0 0 in
-    let w : eqb x 87 ≡ false = ne-eqb x 87 (λ e. omega arith) in
-    let r : eqb x 82 ≡ false = ne-eqb x 82 (λ e. omega arith) in
-    let b : eqb x 66 ≡ false = ne-eqb x 66 (λ e. omega arith) in
-    let g : eqb x 71 ≡ false = ne-eqb x 71 (λ e. omega arith) in
-    let s : eqb x 88 ≡ false = ne-eqb x 88 (λ e. omega arith) in
-    let t : eqb x 83 ≡ false = ne-eqb x 83 (λ e. omega arith) in
-    let m : eqb x 77 ≡ false = ne-eqb x 77 (λ e. omega arith) in
-    rw (w, r, b, g, s, t, m)
+pub returns : need.returns
+returns c =
+    let is = c .parse-by-letter .ensures in
+    record {
+      meaning = is;
+      spelling = λ k e. spelled-only (c .args .line .now) k (sym is ∙ e);
+      complete = λ k s e. is ∙ ap command-of e ∙ reads-back k s;
+    }
