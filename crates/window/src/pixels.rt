@@ -66,7 +66,7 @@ impl Window {
 
 impl Window {
     // Where pixel k begins. The numbers of a window are small enough that nothing wraps.
-    pub fn address(&self, bytes_per_pixel: u8, k: u32) -> u64
+    fn address(&self, bytes_per_pixel: u8, k: u32) -> u64
         ensures is { λ r. ⌜ r ≡ place (area-of (now (self .entry))) «bytes_per_pixel» k ⌝ }
         ensures low { λ r. ⌜ r < 2 ^ 60 ⌝ }
     {
