@@ -1,0 +1,4 @@
+pub mod Finds
+pub mod Lays
+pub mod Parts
+pub mod Queues

@@ -1,0 +1,18 @@
+use mathlib.Core.Path.{_≡_, sym, ap, _∙_}
+use Prim.Native.Nat.{_%_}
+use native.Mathlib.Nat.{mod-eq-of-lt}
+use native.Mathlib.Omega.{arith}
+use lib.ListN.{getD, set, take, drop}
+use Rattle.layers.specs.Entries.{none, waiting}
+use Rattle.layers.specs.Laid.{laid}
+use Rattle.layers.proofs.Queues.{laid-oldest}
+use Rattle.layers.proofs.queue.WriteQueue.send.Needs as need
+
+pub returns : need.returns
+returns g c =
+    let q = c .args .self .now in
+    let m = g .M·Memory .bytes (q .below) in
+    let es = waiting (q .pending) in
+    let oldest = laid-oldest m es (c .pre) in
+    let byte : c .value-at-value .result % 256 ≡ c .value-at-value .result = mod-eq-of-lt (c .value-at-value .ok) in
+    cc

@@ -1,0 +1,108 @@
+// A write queue over any memory: up to 16 puts wait, and go below the oldest first.
+ghost use mathlib.Core.Path.{_≡_};
+ghost use mathlib.Core.List.{[]};
+ghost use Prim.Native.Nat.{_<_};
+ghost use lib.ListN.{length, set};
+ghost use Rattle.refusal.specs.Numbers.{numbered};
+ghost use Rattle.memory.specs.Bytes.{put-at};
+ghost use Rattle.layers.specs.Entries.{waiting};
+ghost use Rattle.layers.specs.Laid.{laid, laid-sound};
+ghost use Rattle.layers.specs.Queue.{state, sent, drained, queued};
+ghost use denote.Ref.{now};
+use super::pending::Pending;
+use memory::Memory;
+use refusal::Refusal;
+
+// The memory below with the waiting bytes laid over it. Not `Drop`, so no waiting byte can be lost: it ends by `into_below`.
+pub struct WriteQueue<M> {
+    below: M,
+    pending: Pending,
+}
+
+impl<M: Memory> WriteQueue<M> {
+    pub fn new(below: M) -> WriteQueue<M>
+        ensures { λ r. ⌜ r .below ≡ below ⌝ ∗ ⌜ waiting (r .pending) ≡ [] ⌝ }
+    {
+        WriteQueue {
+            below,
+            pending: Pending::empty(),
+        }
+    }
+
+    // How many puts wait.
+    pub fn waiting_count(&self) -> u8
+        ensures { λ r. ⌜ r ≡ length (waiting (now (self .entry) .pending)) ⌝ }
+    {
+        self.pending.len() as u8
+    }
+
+    // Sends the oldest put below. Its address was below the size when it was kept, so the memory below takes it.
+    fn send(&mut self)
+        requires { ⌜ 0 < length (waiting (now self .pending)) ⌝ }
+        ensures { λ _. ⌜ state (bytes (now (self .exit) .below)) (now (self .exit) .pending) ≡ sent (state (bytes (now (self .entry) .below)) (now (self .entry) .pending)) ⌝ }
+    {
+        let address = self.pending.address_at(0);
+        let value = self.pending.value_at(0);
+        self.pending.shift();
+        let _ = self.below.put(address, value);
+    }
+
+    // Sends all below.
+    pub fn drain(&mut self)
+        ensures { λ _. ⌜ state (bytes (now (self .exit) .below)) (now (self .exit) .pending) ≡ drained (state (bytes (now (self .entry) .below)) (now (self .entry) .pending)) ⌝ }
+    {
+        while self.pending.len() > 0 {
+            self.send();
+        }
+    }
+
+    // Sends all below and hands the memory below back.
+    pub fn into_below(mut self) -> M
+        ensures { λ r. ⌜ bytes r ≡ laid (bytes (self .below)) (waiting (self .pending)) ⌝ }
+    {
+        self.drain();
+        let WriteQueue { below, pending: _ } = self;
+        below
+    }
+}
+
+pub impl<M: Memory> Memory for WriteQueue<M> as WriteQueueMemory {
+    ghost bytes = { λ q. laid (M·Memory .bytes (q .below)) (waiting (q .pending)) };
+
+    ghost sound = { λ q. laid-sound (M·Memory .bytes (q .below)) (waiting (q .pending)) (M·Memory .sound (q .below)) };
+
+    fn size(&self) -> u32 {
+        self.below.size()
+    }
+
+    fn read(&self, address: u32) -> Result<u8, Refusal> {
+        if address >= self.size() {
+            return Err(Refusal::NoSuchAddress);
+        }
+        match self.pending.place(address) {
+            Some(i) => Ok(self.pending.value_at(i)),
+            None => self.below.read(address),
+        }
+    }
+
+    // A put to an address that waits changes it where it stands. Where 16 others wait, the oldest goes below first.
+    fn put(&mut self, address: u32, value: u8) -> Result<(), Refusal>
+        ensures answer { λ r. ⌜ numbered r ≡ put-at (laid (M·Memory .bytes (now (self .entry) .below)) (waiting (now (self .entry) .pending))) address ⌝ }
+        ensures after { λ _. ⌜ laid (M·Memory .bytes (now (self .exit) .below)) (waiting (now (self .exit) .pending)) ≡ set (laid (M·Memory .bytes (now (self .entry) .below)) (waiting (now (self .entry) .pending))) address value ⌝ }
+        ensures kept { λ _. ⌜ state (M·Memory .bytes (now (self .exit) .below)) (now (self .exit) .pending) ≡ queued (state (M·Memory .bytes (now (self .entry) .below)) (now (self .entry) .pending)) address value ⌝ }
+    {
+        if address >= self.size() {
+            return Err(Refusal::NoSuchAddress);
+        }
+        match self.pending.place(address) {
+            Some(i) => self.pending.change(i, address, value),
+            None => {
+                if self.pending.len() == 16 {
+                    self.send();
+                }
+                self.pending.push(address, value);
+            }
+        }
+        Ok(())
+    }
+}
