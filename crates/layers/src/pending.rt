@@ -21,18 +21,6 @@ pub struct Pending {
 }
 
 impl Pending {
-    pub(crate) fn empty() -> Pending
-        ensures { λ r. ⌜ waiting r ≡ [] ⌝ }
-    {
-        Pending {
-            entries: [Entry {
-                address: 0,
-                value: 0,
-            }; 16],
-            count: 0,
-        }
-    }
-
     pub(crate) fn len(&self) -> usize
         ensures count { λ r. ⌜ r ≡ length (waiting (now (self .entry))) ⌝ }
         ensures table { λ r. ⌜ r ≡ held (now (self .entry)) ⌝ }

@@ -4,11 +4,14 @@ ghost use mathlib.Core.List.{[]};
 ghost use Prim.Native.Nat.{_<_};
 ghost use lib.ListN.{length, set};
 ghost use Rattle.refusal.specs.Numbers.{numbered};
-ghost use Rattle.memory.specs.Bytes.{put-at};
+ghost use Rattle.std.specs.Options.{Cases};
+ghost use Rattle.std.specs.declared.result.Result.the-variants.{Ok};
+ghost use Rattle.memory.specs.Bytes.{read-at, put-at};
 ghost use Rattle.layers.specs.Entries.{waiting};
 ghost use Rattle.layers.specs.Laid.{laid, laid-sound};
 ghost use Rattle.layers.specs.Queue.{state, sent, drained, queued};
 ghost use denote.Ref.{now};
+use super::pending::Entry;
 use super::pending::Pending;
 use memory::Memory;
 use refusal::Refusal;
@@ -25,7 +28,13 @@ impl<M: Memory> WriteQueue<M> {
     {
         WriteQueue {
             below,
-            pending: Pending::empty(),
+            pending: Pending {
+                entries: [Entry {
+                    address: 0,
+                    value: 0,
+                }; 16],
+                count: 0,
+            },
         }
     }
 
@@ -64,35 +73,32 @@ impl<M: Memory> WriteQueue<M> {
         let WriteQueue { below, pending: _ } = self;
         below
     }
-}
 
-pub impl<M: Memory> Memory for WriteQueue<M> as WriteQueueMemory {
-    ghost bytes = { λ q. laid (M·Memory .bytes (q .below)) (waiting (q .pending)) };
-
-    ghost sound = { λ q. laid-sound (M·Memory .bytes (q .below)) (waiting (q .pending)) (M·Memory .sound (q .below)) };
-
-    fn size(&self) -> u32 {
+    // What waits adds no address.
+    fn size_below(&self) -> u32
+        ensures { λ r. ⌜ r ≡ length (laid (bytes (now (self .entry) .below)) (waiting (now (self .entry) .pending))) ⌝ }
+    {
         self.below.size()
     }
 
-    fn read(&self, address: u32) -> Result<u8, Refusal> {
-        if address >= self.size() {
-            return Err(Refusal::NoSuchAddress);
-        }
+    // The byte that waits for an address, and else what lies below counts.
+    fn waiting_byte(&self, address: u32) -> Option<u8>
+        requires { ⌜ address < length (laid (bytes (now self .below)) (waiting (now self .pending))) ⌝ }
+        ensures { λ r. ⌜ Cases r (read-at (laid (bytes (now (self .entry) .below)) (waiting (now (self .entry) .pending))) address ≡ read-at (bytes (now (self .entry) .below)) address) (λ v. read-at (laid (bytes (now (self .entry) .below)) (waiting (now (self .entry) .pending))) address ≡ Ok v) ⌝ }
+    {
         match self.pending.place(address) {
-            Some(i) => Ok(self.pending.value_at(i)),
-            None => self.below.read(address),
+            Some(i) => Some(self.pending.value_at(i)),
+            None => None,
         }
     }
 
-    // A put to an address that waits changes it where it stands. Where 16 others wait, the oldest goes below first.
-    fn put(&mut self, address: u32, value: u8) -> Result<(), Refusal>
-        ensures answer { λ r. ⌜ numbered r ≡ put-at (laid (M·Memory .bytes (now (self .entry) .below)) (waiting (now (self .entry) .pending))) address ⌝ }
-        ensures after { λ _. ⌜ laid (M·Memory .bytes (now (self .exit) .below)) (waiting (now (self .exit) .pending)) ≡ set (laid (M·Memory .bytes (now (self .entry) .below)) (waiting (now (self .entry) .pending))) address value ⌝ }
-        ensures kept { λ _. ⌜ state (M·Memory .bytes (now (self .exit) .below)) (now (self .exit) .pending) ≡ queued (state (M·Memory .bytes (now (self .entry) .below)) (now (self .entry) .pending)) address value ⌝ }
+    // Keeps a put, and past the end nothing. An address that waits is changed where it stands; where 16 others wait, the oldest goes below first.
+    fn keep(&mut self, address: u32, value: u8)
+        ensures after { λ _. ⌜ laid (bytes (now (self .exit) .below)) (waiting (now (self .exit) .pending)) ≡ set (laid (bytes (now (self .entry) .below)) (waiting (now (self .entry) .pending))) address value ⌝ }
+        ensures kept { λ _. ⌜ state (bytes (now (self .exit) .below)) (now (self .exit) .pending) ≡ queued (state (bytes (now (self .entry) .below)) (now (self .entry) .pending)) address value ⌝ }
     {
-        if address >= self.size() {
-            return Err(Refusal::NoSuchAddress);
+        if address >= self.size_below() {
+            return;
         }
         match self.pending.place(address) {
             Some(i) => self.pending.change(i, address, value),
@@ -103,6 +109,39 @@ pub impl<M: Memory> Memory for WriteQueue<M> as WriteQueueMemory {
                 self.pending.push(address, value);
             }
         }
-        Ok(())
+    }
+}
+
+pub impl<M: Memory> Memory for WriteQueue<M> as WriteQueueMemory {
+    ghost bytes = { λ q. laid (M·Memory .bytes (q .below)) (waiting (q .pending)) };
+
+    ghost sound = { λ q. laid-sound (M·Memory .bytes (q .below)) (waiting (q .pending)) (M·Memory .sound (q .below)) };
+
+    fn size(&self) -> u32 {
+        self.size_below()
+    }
+
+    fn read(&self, address: u32) -> Result<u8, Refusal> {
+        if address >= self.size() {
+            return Err(Refusal::NoSuchAddress);
+        }
+        match self.waiting_byte(address) {
+            Some(value) => Ok(value),
+            None => self.below.read(address),
+        }
+    }
+
+    fn put(&mut self, address: u32, value: u8) -> Result<(), Refusal>
+        ensures answer { λ r. ⌜ numbered r ≡ put-at (laid (M·Memory .bytes (now (self .entry) .below)) (waiting (now (self .entry) .pending))) address ⌝ }
+        ensures after { λ _. ⌜ laid (M·Memory .bytes (now (self .exit) .below)) (waiting (now (self .exit) .pending)) ≡ set (laid (M·Memory .bytes (now (self .entry) .below)) (waiting (now (self .entry) .pending))) address value ⌝ }
+        ensures kept { λ _. ⌜ state (M·Memory .bytes (now (self .exit) .below)) (now (self .exit) .pending) ≡ queued (state (M·Memory .bytes (now (self .entry) .below)) (now (self .entry) .pending)) address value ⌝ }
+    {
+        let size = self.size();
+        self.keep(address, value);
+        if address < size {
+            Ok(())
+        } else {
+            Err(Refusal::NoSuchAddress)
+        }
     }
 }

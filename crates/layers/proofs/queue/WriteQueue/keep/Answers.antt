@@ -3,24 +3,23 @@ use Prim.Native.Nat.{_<_, _≤_, _%_}
 use native.Mathlib.Nat.{mod-eq-of-lt}
 use native.Mathlib.Omega.{arith}
 use lib.ListN.{length, set}
-use Rattle.memory.proofs.Access.{put-in, put-past, kept-past}
+use Rattle.memory.proofs.Access.{kept-past}
 use Rattle.layers.specs.Entries.{entry, waiting}
 use Rattle.layers.specs.Laid.{laid}
 use Rattle.layers.specs.Queue.{queue, state, over, pushed, queued}
 use Rattle.layers.proofs.Lays.{laid-change, laid-push, length-laid}
 use Rattle.layers.proofs.Queues.{queued-past, queued-changed, queued-room, queued-full, laid-sent}
-use Rattle.layers.proofs.queue.WriteQueueMemory.put.Needs as need
-use Rattle.layers.proofs.queue.WriteQueueMemory.put.Needs.{then-len-eq16, else-len-eq16}
+use Rattle.layers.proofs.queue.WriteQueue.keep.Needs as need
+use Rattle.layers.proofs.queue.WriteQueue.keep.Needs.{then-len-eq16, else-len-eq16}
 
-pub returns-then-address-size : need.returns-then-address-size
-returns-then-address-size g c =
+pub returns-then-address-size-below : need.returns-then-address-size-below
+returns-then-address-size-below g c =
     let q = c .args .self .now in
     let m = g .M·Memory .bytes (q .below) in
     let a = c .args .address in
     let v = c .args .value in
     let long = length-laid m (waiting (q .pending)) in
     record {
-      answer = put-past (laid m (waiting (q .pending))) a (omega arith);
       after = kept-past (laid m (waiting (q .pending))) a v (omega arith);
       kept = queued-past (state m (q .pending)) a v (omega arith);
     }
@@ -37,7 +36,6 @@ returns-in-Some g c =
     let new = laid-change m es a i v (c .in-Some .ensures tt) in
     let long = length-laid m es in
     record {
-      answer = put-in (laid m es) a (omega arith);
       after = cc;
       kept = ap (queue m) (c .change .ensures) ∙ queued-changed (queue m es) a v i (omega arith) (c .in-Some .ensures tt);
     }
@@ -67,7 +65,6 @@ returns-after-len-eq16 g c =
     ] in
     let new = laid-push (b (q′ .below)) (waiting (q′ .pending)) (entry a v) in
     record {
-      answer = put-in (laid m es) a (omega arith);
       after = cc;
       kept = ap (queue (b (q′ .below))) (c .push .ensures) ∙ came .1;
     }

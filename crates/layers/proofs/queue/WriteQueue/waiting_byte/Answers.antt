@@ -8,7 +8,7 @@ use Rattle.memory.proofs.Access.{read-in}
 use Rattle.layers.specs.Laid.{laid}
 use Rattle.layers.specs.Entries.{waiting}
 use Rattle.layers.proofs.Lays.{laid-last, laid-absent, length-laid}
-use Rattle.layers.proofs.queue.WriteQueueMemory.read.Needs as need
+use Rattle.layers.proofs.queue.WriteQueue.waiting_byte.Needs as need
 
 pub value-at-requires : need.value-at-requires
 value-at-requires g c κs = c .in-Some .ensures tt .within
