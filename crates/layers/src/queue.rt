@@ -1,8 +1,10 @@
 // A write queue over any memory: up to 16 puts wait, and go below the oldest first.
 ghost use mathlib.Core.Path.{_≡_};
+ghost use mathlib.Core.Bool.{not};
 ghost use mathlib.Core.List.{[]};
 ghost use Prim.Native.Nat.{_<_};
 ghost use lib.ListN.{length, set};
+ghost use lib.Dec.{T};
 ghost use Rattle.refusal.specs.Numbers.{numbered};
 ghost use Rattle.std.specs.Options.{Cases};
 ghost use Rattle.std.specs.declared.result.Result.the-variants.{Ok};
@@ -45,10 +47,19 @@ impl<M: Memory> WriteQueue<M> {
         self.pending.len() as u8
     }
 
-    // Sends the oldest put below. Its address was below the size when it was kept, so the memory below takes it.
+    fn is_drained(&self) -> bool
+        ensures none { λ r. ⌜ (T r → state (bytes (now (self .entry) .below)) (now (self .entry) .pending) ≡ drained (state (bytes (now (self .entry) .below)) (now (self .entry) .pending))) ⌝ }
+        ensures some { λ r. ⌜ (T (not r) → 0 < length (waiting (now (self .entry) .pending))) ⌝ }
+    {
+        self.pending.len() == 0
+    }
+
+    // Sends the oldest put below. It was within memory when it was kept, so it is taken.
     fn send(&mut self)
         requires { ⌜ 0 < length (waiting (now self .pending)) ⌝ }
-        ensures { λ _. ⌜ state (bytes (now (self .exit) .below)) (now (self .exit) .pending) ≡ sent (state (bytes (now (self .entry) .below)) (now (self .entry) .pending)) ⌝ }
+        ensures oldest { λ _. ⌜ state (bytes (now (self .exit) .below)) (now (self .exit) .pending) ≡ sent (state (bytes (now (self .entry) .below)) (now (self .entry) .pending)) ⌝ }
+        ensures shown { λ _. ⌜ laid (bytes (now (self .exit) .below)) (waiting (now (self .exit) .pending)) ≡ laid (bytes (now (self .entry) .below)) (waiting (now (self .entry) .pending)) ⌝ }
+        ensures less { λ _. ⌜ length (waiting (now (self .exit) .pending)) < length (waiting (now (self .entry) .pending)) ⌝ }
     {
         let address = self.pending.address_at(0);
         let value = self.pending.value_at(0);
@@ -60,7 +71,7 @@ impl<M: Memory> WriteQueue<M> {
     pub fn drain(&mut self)
         ensures { λ _. ⌜ state (bytes (now (self .exit) .below)) (now (self .exit) .pending) ≡ drained (state (bytes (now (self .entry) .below)) (now (self .entry) .pending)) ⌝ }
     {
-        while self.pending.len() > 0 {
+        while !self.is_drained() {
             self.send();
         }
     }

@@ -57,7 +57,7 @@ returns-after-len-eq16 g c =
     let came : (over s′ ≡ laid m es) × (pushed s′ a v ≡ queued (queue m es) a v) =
     elim (c .if-len-eq16 .came) [
       | then-len-eq16 w ↦
-          let is = ap (λ x. state (b (x .below)) (x .pending)) (w .self-is) ∙ w .send .ensures in
+          let is = ap (λ x. state (b (x .below)) (x .pending)) (w .self-is) ∙ w .send .ensures .oldest in
           (ap over is ∙ laid-sent m es, ap (λ x. pushed x a v) is ∙ queued-full (queue m es) a v in′ absent (omega arith))
       | else-len-eq16 w ↦
           let is = ap (λ x. state (b (x .below)) (x .pending)) (w .self-is) in
