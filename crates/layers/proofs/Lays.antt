@@ -11,6 +11,10 @@ use Rattle.layers.specs.Entries.{none, entry}
 use Rattle.layers.specs.Laid.{laid}
 use Rattle.layers.specs.Places.{Last, Absent}
 
+pub laid-none : (m : List ℕ) → laid m [] ≡ m
+unfolding laid
+laid-none m = refl
+
 pub length-laid : (m : List ℕ) (es : List Entry) → length (laid m es) ≡ length m
 unfolding laid
 length-laid m [] = refl

@@ -26,7 +26,8 @@ pub struct WriteQueue<M> {
 
 impl<M: Memory> WriteQueue<M> {
     pub fn new(below: M) -> WriteQueue<M>
-        ensures { λ r. ⌜ r .below ≡ below ⌝ ∗ ⌜ waiting (r .pending) ≡ [] ⌝ }
+        ensures below { λ r. ⌜ r .below ≡ below ⌝ }
+        ensures none { λ r. ⌜ waiting (r .pending) ≡ [] ⌝ }
     {
         WriteQueue {
             below,
