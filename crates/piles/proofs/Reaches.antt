@@ -15,6 +15,7 @@ use Rattle.std.proofs.shelf.Lists.{length-set, getD-set-same, set-past}
 use Rattle.memory.specs.Bytes.{read-at, put-at}
 use Rattle.memory.proofs.Access.{read-in, read-past}
 use Rattle.layers.specs.Part.{part, part-length, put-under}
+use Rattle.layers.specs.Queue.{queue, pushed, queued, taken, waits}
 use Rattle.piles.specs.Reach.{has}
 
 reached : (n s l a : ℕ) → ltb a (min l (n - s)) ≡ cond (ltb a l) (ltb (s + a) n) false
@@ -43,3 +44,11 @@ module _ (m : List ℕ) (s l a : ℕ) where
       sym (read-past (set p a v) a (omega (arith, length-set p a v))) ∙ sym (cond-false (ltb a (length p)) (Ok v) (Err 12) (le-ltb a (length p) past)))
       (cases-lt a (length p))
       ∙ ap (λ b. cond b (Ok v) (Err 12)) has-part
+
+  pub first-has : (v : ℕ) → length (queued (queue (part m s l) []) a v .entries) ≡ cond (has m s l a) 1 0
+  unfolding queued taken waits
+  first-has v = first (ltb a (length (part m s l))) ∙ ap (λ b. cond b 1 0) has-part
+    where
+      first : (b : Bool) → length (cond b (pushed (queue (part m s l) []) a v) (queue (part m s l) []) .entries) ≡ cond b 1 0
+      first true = refl
+      first false = refl

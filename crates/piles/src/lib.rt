@@ -3,7 +3,7 @@ ghost use mathlib.Core.Path.{_≡_};
 ghost use mathlib.Core.Bool.{cond};
 ghost use mathlib.Core.List.{[]};
 ghost use Prim.Native.Nat.{_+_};
-ghost use lib.ListN.{set};
+ghost use lib.ListN.{length, set};
 ghost use Rattle.std.specs.declared.result.Result.the-variants.{Ok, Err};
 ghost use Rattle.refusal.specs.Numbers.{numbered};
 ghost use Rattle.memory.specs.Boards.{of-bytes, of-words};
@@ -86,5 +86,67 @@ pub fn put_queued_bytes<'a>(
         answer,
         seen,
         block,
+    }
+}
+
+// What a put and a read answered, how many puts then waited, and the stretch once the queue is taken apart.
+#[derive(Drop)]
+pub struct WordPut<'a> {
+    pub answer: Result<(), Refusal>,
+    pub seen: Result<u8, Refusal>,
+    pub waiting: u8,
+    pub stretch: Stretch<WordBoard<'a>>,
+}
+
+// A queue over a stretch over a word board.
+fn queue_of_words<'a>(
+    block: &'a mut [u16],
+    start: u32,
+    most: u32,
+) -> WriteQueue<Stretch<WordBoard<'a>>>
+    ensures shown { λ r. ⌜ of-words (now (r .below .below .block)) ≡ of-words (now (block .entry)) ⌝ }
+    ensures start { λ r. ⌜ r .below .start ≡ start ⌝ }
+    ensures most { λ r. ⌜ r .below .length ≡ most ⌝ }
+    ensures none { λ r. ⌜ waiting (r .pending) ≡ [] ⌝ }
+{
+    WriteQueue::new(Stretch::new(WordBoard::new(block), start, most))
+}
+
+fn try_queue<M: Memory>(pile: &mut WriteQueue<Stretch<M>>, address: u32, value: u8) -> Tried
+    requires { ⌜ waiting (now pile .pending) ≡ [] ⌝ }
+    ensures answer { λ r. ⌜ numbered (r .answer) ≡ cond (has (bytes (now (pile .entry) .below .below)) (now (pile .entry) .below .start) (now (pile .entry) .below .length) address) (Ok tt) (Err 12) ⌝ }
+    ensures seen { λ r. ⌜ numbered (r .seen) ≡ cond (has (bytes (now (pile .entry) .below .below)) (now (pile .entry) .below .start) (now (pile .entry) .below .length) address) (Ok value) (Err 12) ⌝ }
+    ensures shown { λ _. ⌜ laid (part (bytes (now (pile .exit) .below .below)) (now (pile .exit) .below .start) (now (pile .exit) .below .length)) (waiting (now (pile .exit) .pending)) ≡ set (part (bytes (now (pile .entry) .below .below)) (now (pile .entry) .below .start) (now (pile .entry) .below .length)) address value ⌝ }
+    ensures waits { λ _. ⌜ length (waiting (now (pile .exit) .pending)) ≡ cond (has (bytes (now (pile .entry) .below .below)) (now (pile .entry) .below .start) (now (pile .entry) .below .length) address) 1 0 ⌝ }
+{
+    let answer = pile.put(address, value);
+    let seen = pile.read(address);
+    Tried { answer, seen }
+}
+
+// A put through a queue over a stretch over a word board. It waits until the queue is taken apart; where the stretch lacks the address, refusal 12
+// is answered and nothing waits.
+pub fn put_stretched_words<'a>(
+    block: &'a mut [u16],
+    start: u32,
+    most: u32,
+    address: u32,
+    value: u8,
+) -> WordPut<'a>
+    ensures answer { λ r. ⌜ numbered (r .answer) ≡ cond (has (of-words (now (block .entry))) start most address) (Ok tt) (Err 12) ⌝ }
+    ensures seen { λ r. ⌜ numbered (r .seen) ≡ cond (has (of-words (now (block .entry))) start most address) (Ok value) (Err 12) ⌝ }
+    ensures waiting { λ r. ⌜ r .waiting ≡ cond (has (of-words (now (block .entry))) start most address) 1 0 ⌝ }
+    ensures stretch { λ r. ⌜ part (of-words (now (r .stretch .below .block))) (r .stretch .start) (r .stretch .length) ≡ set (part (of-words (now (block .entry))) start most) address value ⌝ }
+{
+    let mut pile = queue_of_words(block, start, most);
+    let tried = try_queue::<WordBoard<'_>>(&mut pile, address, value);
+    let waiting = pile.waiting_count();
+    let stretch = pile.into_below();
+    let Tried { answer, seen } = tried;
+    WordPut {
+        answer,
+        seen,
+        waiting,
+        stretch,
     }
 }
