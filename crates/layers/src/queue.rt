@@ -48,6 +48,13 @@ impl<M: Memory> WriteQueue<M> {
         self.pending.len() as u8
     }
 
+    // What lies below an address, whatever waits for it.
+    pub fn read_below(&self, address: u32) -> Result<u8, Refusal>
+        ensures { λ r. ⌜ numbered r ≡ read-at (bytes (now (self .entry) .below)) address ⌝ }
+    {
+        self.below.read(address)
+    }
+
     fn is_drained(&self) -> bool
         ensures none { λ r. ⌜ (T r → state (bytes (now (self .entry) .below)) (now (self .entry) .pending) ≡ drained (state (bytes (now (self .entry) .below)) (now (self .entry) .pending))) ⌝ }
         ensures some { λ r. ⌜ (T (not r) → 0 < length (waiting (now (self .entry) .pending))) ⌝ }
@@ -139,7 +146,7 @@ pub impl<M: Memory> Memory for WriteQueue<M> as WriteQueueMemory {
         }
         match self.waiting_byte(address) {
             Some(value) => Ok(value),
-            None => self.below.read(address),
+            None => self.read_below(address),
         }
     }
 

@@ -150,3 +150,6 @@ pub fn put_stretched_words<'a>(
         stretch,
     }
 }
+
+#[cfg(test)]
+mod tests;
