@@ -1,4 +1,5 @@
 -- What a write queue keeps, and what each of its calls makes of that.
+use mathlib.Core.Path.{_≡_}
 use mathlib.Core.List.{List, [], _∷_, _++_}
 use mathlib.Core.Bool.{Bool, true, false, cond}
 use Prim.Native.Nat.{ℕ}
@@ -55,3 +56,8 @@ taken q a v =
 -- a put: past the end nothing changes
 unfoldable pub queued : Queue → ℕ → ℕ → Queue
 queued q a v = cond (ltb a (length (q .below))) (taken q a v) q
+
+-- no address waits twice
+unfoldable pub Once : List Entry → Type 0
+Once [] = Unit {0}
+Once (e ∷ es) = (waits es (e .address) ≡ false) × Once es

@@ -11,7 +11,7 @@ ghost use Rattle.std.specs.declared.result.Result.the-variants.{Ok};
 ghost use Rattle.memory.specs.Bytes.{read-at, put-at};
 ghost use Rattle.layers.specs.Entries.{waiting};
 ghost use Rattle.layers.specs.Laid.{laid, laid-sound};
-ghost use Rattle.layers.specs.Queue.{state, sent, drained, queued};
+ghost use Rattle.layers.specs.Queue.{state, sent, drained, queued, Once};
 ghost use denote.Ref.{now};
 use super::pending::Entry;
 use super::pending::Pending;
@@ -115,6 +115,7 @@ impl<M: Memory> WriteQueue<M> {
     fn keep(&mut self, address: u32, value: u8)
         ensures after { λ _. ⌜ laid (bytes (now (self .exit) .below)) (waiting (now (self .exit) .pending)) ≡ set (laid (bytes (now (self .entry) .below)) (waiting (now (self .entry) .pending))) address value ⌝ }
         ensures kept { λ _. ⌜ state (bytes (now (self .exit) .below)) (now (self .exit) .pending) ≡ queued (state (bytes (now (self .entry) .below)) (now (self .entry) .pending)) address value ⌝ }
+        ensures once { λ _. ⌜ (Once (waiting (now (self .entry) .pending)) → Once (waiting (now (self .exit) .pending))) ⌝ }
     {
         if address >= self.size_below() {
             return;
@@ -154,6 +155,7 @@ pub impl<M: Memory> Memory for WriteQueue<M> as WriteQueueMemory {
         ensures answer { λ r. ⌜ numbered r ≡ put-at (laid (M·Memory .bytes (now (self .entry) .below)) (waiting (now (self .entry) .pending))) address ⌝ }
         ensures after { λ _. ⌜ laid (M·Memory .bytes (now (self .exit) .below)) (waiting (now (self .exit) .pending)) ≡ set (laid (M·Memory .bytes (now (self .entry) .below)) (waiting (now (self .entry) .pending))) address value ⌝ }
         ensures kept { λ _. ⌜ state (M·Memory .bytes (now (self .exit) .below)) (now (self .exit) .pending) ≡ queued (state (M·Memory .bytes (now (self .entry) .below)) (now (self .entry) .pending)) address value ⌝ }
+        ensures once { λ _. ⌜ (Once (waiting (now (self .entry) .pending)) → Once (waiting (now (self .exit) .pending))) ⌝ }
     {
         let size = self.size();
         self.keep(address, value);

@@ -8,6 +8,7 @@ use Rattle.layers.specs.Entries.{entry, waiting}
 use Rattle.layers.specs.Laid.{laid}
 use Rattle.layers.specs.Queue.{queue, state, over, pushed, queued}
 use Rattle.layers.proofs.Lays.{laid-change, laid-push, length-laid}
+use Rattle.layers.proofs.Onces.{once-after}
 use Rattle.layers.proofs.Queues.{queued-past, queued-changed, queued-room, queued-full, laid-sent}
 use Rattle.layers.proofs.queue.WriteQueue.keep.Needs as need
 use Rattle.layers.proofs.queue.WriteQueue.keep.Needs.{then-len-eq16, else-len-eq16}
@@ -22,6 +23,7 @@ returns-then-address-size-below g c =
     record {
       after = kept-past (laid m (waiting (q .pending))) a v (omega arith);
       kept = queued-past (state m (q .pending)) a v (omega arith);
+      once = λ o. o;
     }
 
 pub returns-in-Some : need.returns-in-Some
@@ -35,10 +37,9 @@ returns-in-Some g c =
     let byte : v % 256 ≡ v = mod-eq-of-lt (omega arith) in
     let new = laid-change m es a i v (c .in-Some .ensures tt) in
     let long = length-laid m es in
-    record {
-      after = cc;
-      kept = ap (queue m) (c .change .ensures) ∙ queued-changed (queue m es) a v i (omega arith) (c .in-Some .ensures tt);
-    }
+    let kept : state m (c .change .last .self) ≡ queued (queue m es) a v =
+    ap (queue m) (c .change .ensures) ∙ queued-changed (queue m es) a v i (omega arith) (c .in-Some .ensures tt) in
+    record { after = cc; kept = kept; once = once-after (queue m es) (state m (c .change .last .self)) a v kept }
 
 pub returns-after-len-eq16 : need.returns-after-len-eq16
 returns-after-len-eq16 g c =
@@ -64,7 +65,6 @@ returns-after-len-eq16 g c =
           (ap over is, ap (λ x. pushed x a v) is ∙ queued-room (queue m es) a v in′ absent (omega arith))
     ] in
     let new = laid-push (b (q′ .below)) (waiting (q′ .pending)) (entry a v) in
-    record {
-      after = cc;
-      kept = ap (queue (b (q′ .below))) (c .push .ensures) ∙ came .1;
-    }
+    let after′ = state (b (q′ .below)) (c .push .last .self) in
+    let kept : after′ ≡ queued (queue m es) a v = ap (queue (b (q′ .below))) (c .push .ensures) ∙ came .1 in
+    record { after = cc; kept = kept; once = once-after (queue m es) after′ a v kept }
