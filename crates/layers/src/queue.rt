@@ -11,6 +11,7 @@ ghost use Rattle.std.specs.declared.result.Result.the-variants.{Ok};
 ghost use Rattle.memory.specs.Bytes.{read-at, put-at};
 ghost use Rattle.layers.specs.Entries.{waiting};
 ghost use Rattle.layers.specs.Laid.{laid, laid-sound};
+ghost use Rattle.layers.specs.Places.{Last, Absent};
 ghost use Rattle.layers.specs.Queue.{state, sent, drained, queued, Once};
 ghost use denote.Ref.{now};
 use super::pending::Entry;
@@ -111,7 +112,32 @@ impl<M: Memory> WriteQueue<M> {
         }
     }
 
-    // Keeps a put, and past the end nothing. An address that waits is changed where it stands; where 16 others wait, the oldest goes below first.
+    // Gives an address that waits at a place another value, where it stands.
+    fn change(&mut self, place: usize, address: u32, value: u8)
+        requires within { ⌜ address < length (laid (bytes (now self .below)) (waiting (now self .pending))) ⌝ }
+        requires there { ⌜ Last (waiting (now self .pending)) address place ⌝ }
+        ensures after { λ _. ⌜ laid (bytes (now (self .exit) .below)) (waiting (now (self .exit) .pending)) ≡ set (laid (bytes (now (self .entry) .below)) (waiting (now (self .entry) .pending))) address value ⌝ }
+        ensures kept { λ _. ⌜ state (bytes (now (self .exit) .below)) (now (self .exit) .pending) ≡ queued (state (bytes (now (self .entry) .below)) (now (self .entry) .pending)) address value ⌝ }
+        ensures once { λ _. ⌜ (Once (waiting (now (self .entry) .pending)) → Once (waiting (now (self .exit) .pending))) ⌝ }
+    {
+        self.pending.change(place, address, value);
+    }
+
+    // Keeps a put to an address that does not wait. Where 16 wait, the oldest goes below first.
+    fn append(&mut self, address: u32, value: u8)
+        requires within { ⌜ address < length (laid (bytes (now self .below)) (waiting (now self .pending))) ⌝ }
+        requires absent { ⌜ Absent (waiting (now self .pending)) address ⌝ }
+        ensures after { λ _. ⌜ laid (bytes (now (self .exit) .below)) (waiting (now (self .exit) .pending)) ≡ set (laid (bytes (now (self .entry) .below)) (waiting (now (self .entry) .pending))) address value ⌝ }
+        ensures kept { λ _. ⌜ state (bytes (now (self .exit) .below)) (now (self .exit) .pending) ≡ queued (state (bytes (now (self .entry) .below)) (now (self .entry) .pending)) address value ⌝ }
+        ensures once { λ _. ⌜ (Once (waiting (now (self .entry) .pending)) → Once (waiting (now (self .exit) .pending))) ⌝ }
+    {
+        if self.pending.len() == 16 {
+            self.send();
+        }
+        self.pending.push(address, value);
+    }
+
+    // Keeps a put, and past the end nothing.
     fn keep(&mut self, address: u32, value: u8)
         ensures after { λ _. ⌜ laid (bytes (now (self .exit) .below)) (waiting (now (self .exit) .pending)) ≡ set (laid (bytes (now (self .entry) .below)) (waiting (now (self .entry) .pending))) address value ⌝ }
         ensures kept { λ _. ⌜ state (bytes (now (self .exit) .below)) (now (self .exit) .pending) ≡ queued (state (bytes (now (self .entry) .below)) (now (self .entry) .pending)) address value ⌝ }
@@ -121,13 +147,8 @@ impl<M: Memory> WriteQueue<M> {
             return;
         }
         match self.pending.place(address) {
-            Some(i) => self.pending.change(i, address, value),
-            None => {
-                if self.pending.len() == 16 {
-                    self.send();
-                }
-                self.pending.push(address, value);
-            }
+            Some(place) => self.change(place, address, value),
+            None => self.append(address, value),
         }
     }
 }
