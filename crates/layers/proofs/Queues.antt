@@ -1,9 +1,8 @@
 -- The cases of a put to a write queue, and what each leaves of what the queue shows.
 use mathlib.Core.Path.{_≡_, refl, sym, ap, _∙_}
-use mathlib.Core.List.{List, [], _∷_, _++_}
+use mathlib.Core.List.{List, [], _∷_}
 use mathlib.Core.Bool.{Bool, true, false, cond}
-use mathlib.Core.Logic.{⊎-elim, _≢_}
-use Prim.Native.Nat.{ℕ, zero, suc, _+_, _<_, _≤_, _%_}
+use Prim.Native.Nat.{ℕ, zero, suc, _<_, _≤_, _%_}
 use native.Mathlib.Omega.{arith}
 use lib.ListN.{length, getD, set, take, drop}
 use lib.Dec.{eqb, ltb}
@@ -12,7 +11,7 @@ use Rattle.layers.specs.declared.pending.Entry.{Entry}
 use Rattle.layers.specs.Entries.{none, entry}
 use Rattle.layers.specs.Laid.{laid}
 use Rattle.layers.specs.Places.{Last, Absent}
-use Rattle.layers.specs.Queue.{Queue, queue, over, waits, changed, sent, pushed, taken, queued}
+use Rattle.layers.specs.Queue.{Queue, queue, waits, changed, sent, pushed, taken, queued}
 use Rattle.layers.proofs.Lays.{absent-head, absent-tail, last-tail, last-rest}
 
 waits-absent : (es : List Entry) (a : ℕ) → Absent es a → waits es a ≡ false

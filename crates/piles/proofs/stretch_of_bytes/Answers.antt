@@ -1,7 +1,4 @@
-use mathlib.Core.Path.{_≡_, ap, _∙_}
 use Rattle.memory.specs.Boards.{of-bytes}
-use Rattle.layers.specs.Entries.{waiting}
-use Rattle.layers.specs.Laid.{laid}
 use Rattle.layers.proofs.Lays.{laid-none}
 use Rattle.piles.proofs.stretch_of_bytes.Needs as need
 

@@ -1,5 +1,4 @@
 use mathlib.Core.Path.{_≡_, ap, _∙_}
-use mathlib.Core.List.{[]}
 use lib.ListN.{length, set}
 use Rattle.memory.specs.Bytes.{read-at, put-at}
 use Rattle.layers.specs.Entries.{waiting}

@@ -1,4 +1,4 @@
-use mathlib.Core.Path.{_≡_, ap, _∙_}
+use mathlib.Core.Path.{ap, _∙_}
 use Rattle.memory.specs.Bytes.{read-at}
 use Rattle.piles.proofs.Reaches.{put-has, under-has, read-has}
 use Rattle.piles.proofs.try_stretch.Needs as need

@@ -1,9 +1,7 @@
-use mathlib.Core.Path.{_≡_, sym, ap, _∙_}
-use Prim.Native.Nat.{_<_, _%_}
+use mathlib.Core.Path.{_≡_}
+use Prim.Native.Nat.{_%_}
 use native.Mathlib.Nat.{mod-eq-of-lt}
 use native.Mathlib.Omega.{arith}
-use lib.ListN.{length}
-use Rattle.std.specs.declared.result.Result.the-variants.{Ok}
 use Rattle.memory.proofs.Access.{read-in}
 use Rattle.layers.specs.Laid.{laid}
 use Rattle.layers.specs.Entries.{waiting}
