@@ -7,14 +7,14 @@ use Rattle.memory.specs.Boards.{of-words, in-words, half}
 use Rattle.memory.specs.View.{view-at}
 use Rattle.memory.proofs.Access.{read-in}
 use Rattle.memory.proofs.Boards.{words-length}
-use Rattle.memory.proofs.WordBoardMemory.read.Needs as need
+use Rattle.memory.proofs.read_half.Needs as need
 
 pub word-at-requires : need.word-at-requires
-word-at-requires c κs = omega (arith, words-length (c .args .self .now .block .now))
+word-at-requires c κs = omega (arith, words-length (c .args .block .now))
 
 pub returns : need.returns
 returns c =
-    let ws = c .args .self .now .block .now in
+    let ws = c .args .block .now in
     let a = c .args .address in
     let long = words-length ws in
     let is = c .half-of .ensures ∙ ap (λ w. half w a) (c .word-at .ensures) in

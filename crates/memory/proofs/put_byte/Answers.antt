@@ -4,19 +4,19 @@ use Rattle.std.proofs.shelf.Lists.{drop-set-lt}
 use Rattle.memory.specs.Boards.{of-bytes}
 use Rattle.memory.proofs.Access.{put-in, put-past, kept-past}
 use Rattle.memory.proofs.Boards.{bytes-length, bytes-put}
-use Rattle.memory.proofs.ByteBoardMemory.put.Needs as need
+use Rattle.memory.proofs.put_byte.Needs as need
 
-pub returns-then-address-size : need.returns-then-address-size
-returns-then-address-size c =
-    let m = of-bytes (c .args .self .now .block .now) in
+pub returns-then-address-byte-size : need.returns-then-address-byte-size
+returns-then-address-byte-size c =
+    let m = of-bytes (c .args .block .now) in
     record { answer = put-past m (c .args .address) (omega arith); after = kept-past m (c .args .address) (c .args .value) (omega arith); rest = refl }
 
-pub index-self-address : need.index-self-address
-index-self-address c = omega (arith, bytes-length (c .args .self .now .block .now))
+pub index-block-address : need.index-block-address
+index-block-address c = omega (arith, bytes-length (c .args .block .now))
 
 pub returns : need.returns
 returns c =
-    let bs = c .args .self .now .block .now in
+    let bs = c .args .block .now in
     let a = c .args .address in
     let long = bytes-length bs in
     record {
