@@ -1,3 +1,4 @@
 pub mod Packed
 pub mod Depths
 pub mod Overlays
+pub mod OverlayKinds

@@ -18,6 +18,9 @@ pub use overlays::Argb4444Readable;
 pub use overlays::Index26;
 pub use overlays::Index26Overlay;
 pub use overlays::Index26Readable;
+pub use overlays::OverlayKind;
+pub use overlays::OverlayKindOverlay;
+pub use overlays::OverlayKindReadable;
 use tables::colour_in_table;
 
 #[derive(Clone, Copy, PartialEq, Eq, Debug)]

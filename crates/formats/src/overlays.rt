@@ -2,6 +2,7 @@
 ghost use mathlib.Core.Path.{_≡_};
 ghost use Prim.Native.Nat.{ℕ, _+_, _-_, _*_, _/_, _%_, _^_, _<_, _≤_};
 ghost use Rattle.formats.specs.Overlays.{index-entry, format26, level26, format4444, level4444};
+ghost use Rattle.formats.specs.OverlayKinds.{overlay-format, overlay-level};
 use crate::tables::field_level;
 use crate::tables::index_level;
 use colour::Colour;
@@ -64,5 +65,41 @@ pub impl Overlay for Argb4444 as Argb4444Overlay {
 
     fn level(&self, value: u32) -> u8 {
         field_level(value / 4096)
+    }
+}
+
+// An overlay format that is chosen while the program runs.
+#[derive(Clone, Copy, PartialEq, Eq, Debug)]
+pub enum OverlayKind {
+    Index26,
+    Argb4444,
+}
+
+pub impl Readable for OverlayKind as OverlayKindReadable {
+    ghost format = { overlay-format };
+
+    fn bytes_per_pixel(&self) -> u8 {
+        match self {
+            OverlayKind::Index26 => Index26.bytes_per_pixel(),
+            OverlayKind::Argb4444 => Argb4444.bytes_per_pixel(),
+        }
+    }
+
+    fn colour(&self, palette: &Palette, value: u32) -> Colour {
+        match self {
+            OverlayKind::Index26 => Index26.colour(palette, value),
+            OverlayKind::Argb4444 => Argb4444.colour(palette, value),
+        }
+    }
+}
+
+pub impl Overlay for OverlayKind as OverlayKindOverlay {
+    ghost levels = { overlay-level };
+
+    fn level(&self, value: u32) -> u8 {
+        match self {
+            OverlayKind::Index26 => Index26.level(value),
+            OverlayKind::Argb4444 => Argb4444.level(value),
+        }
     }
 }

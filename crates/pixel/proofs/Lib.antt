@@ -1,0 +1,3 @@
+pub mod Minterms
+pub mod Rasters
+pub mod Blends

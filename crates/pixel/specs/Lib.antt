@@ -1,0 +1,3 @@
+pub mod Rasters
+pub mod Blends
+pub mod Choices

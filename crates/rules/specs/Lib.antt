@@ -1,0 +1,2 @@
+pub mod Yields
+pub mod Chosen
