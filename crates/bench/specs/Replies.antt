@@ -28,7 +28,7 @@ abbrev pub call-reply : State → Call → Reply
 call-reply s (call.write r v) = done-reply (answer-of (written s r v))
 call-reply s (call.read r) = byte-reply (register-read s r)
 call-reply s (call.burst _) = reply.malformed
-call-reply s (call.run n) = count-reply (run-answer (s .doing) n)
+call-reply s (call.run n) = count-reply (run-answer s (s .doing) n)
 call-reply s call.stop = count-reply (stop-answer (s .doing))
 call-reply s call.status = reply.byte (status-of (s .doing))
 call-reply s (call.memory a) = byte-reply (read-at (s .memory) a)

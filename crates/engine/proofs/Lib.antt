@@ -1,1 +1,4 @@
 pub mod Painting
+pub mod Feeding
+pub mod Orders
+pub mod Laws

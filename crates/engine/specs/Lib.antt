@@ -1,1 +1,3 @@
 pub mod Painted
+pub mod Fed
+pub mod Laws

@@ -39,39 +39,6 @@ fn byte_at(block: &[u8], place: usize) -> u8
     block[place]
 }
 
-// How many bytes of a block are display memory.
-fn byte_size(block: &[u8]) -> u32
-    ensures { λ r. ⌜ r ≡ length (of-bytes (now (block .entry))) ⌝ }
-{
-    let count = block.len();
-    if count < MOST {
-        count as u32
-    } else {
-        MOST as u32
-    }
-}
-
-fn read_byte(block: &[u8], address: u32) -> Result<u8, Refusal>
-    ensures { λ r. ⌜ numbered r ≡ read-at (of-bytes (now (block .entry))) address ⌝ }
-{
-    if address >= byte_size(block) {
-        return Err(Refusal::NoSuchAddress);
-    }
-    Ok(byte_at(block, address as usize))
-}
-
-fn put_byte(block: &mut [u8], address: u32, value: u8) -> Result<(), Refusal>
-    ensures answer { λ r. ⌜ numbered r ≡ put-at (of-bytes (now (block .entry))) address ⌝ }
-    ensures after { λ _. ⌜ of-bytes (now (block .exit)) ≡ set (of-bytes (now (block .entry))) address value ⌝ }
-    ensures rest { λ _. ⌜ drop 16777216 (now (block .exit)) ≡ drop 16777216 (now (block .entry)) ⌝ }
-{
-    if address >= byte_size(block) {
-        return Err(Refusal::NoSuchAddress);
-    }
-    block[address as usize] = value;
-    Ok(())
-}
-
 // A lent block of bytes, of which at most the first 16,777,216 are display memory.
 #[derive(Drop)]
 pub struct ByteBoard<'a> {
@@ -100,11 +67,19 @@ pub impl Memory for ByteBoard<'_> as ByteBoardMemory {
     ghost sound = { λ b. bytes-sound (now (b .block)) };
 
     fn size(&self) -> u32 {
-        byte_size(self.block)
+        let count = self.block.len();
+        if count < MOST {
+            count as u32
+        } else {
+            MOST as u32
+        }
     }
 
     fn read(&self, address: u32) -> Result<u8, Refusal> {
-        read_byte(self.block, address)
+        if address >= self.size() {
+            return Err(Refusal::NoSuchAddress);
+        }
+        Ok(byte_at(self.block, address as usize))
     }
 
     // What lies past the display memory is never written.
@@ -113,7 +88,11 @@ pub impl Memory for ByteBoard<'_> as ByteBoardMemory {
         ensures after { λ _. ⌜ of-bytes (now (now (self .exit) .block)) ≡ set (of-bytes (now (now (self .entry) .block))) address value ⌝ }
         ensures rest { λ _. ⌜ drop 16777216 (now (now (self .exit) .block)) ≡ drop 16777216 (now (now (self .entry) .block)) ⌝ }
     {
-        put_byte(self.block, address, value)
+        if address >= self.size() {
+            return Err(Refusal::NoSuchAddress);
+        }
+        self.block[address as usize] = value;
+        Ok(())
     }
 }
 
@@ -145,38 +124,12 @@ fn word_at(block: &[u16], place: usize) -> u16
     block[place]
 }
 
-// How many bytes of display memory a block of words has.
-fn word_size(block: &[u16]) -> u32
-    ensures { λ r. ⌜ r ≡ length (of-words (now (block .entry))) ⌝ }
+fn put_half(block: &mut [u16], address: u32, value: u8)
+    requires { ⌜ address / 2 < length (now block) ⌝ }
+    ensures { λ _. ⌜ now (block .exit) ≡ set (now (block .entry)) (address / 2) (with-half (getD (now (block .entry)) (address / 2) 0) address value) ⌝ }
 {
-    let count = block.len();
-    if count < MOST / 2 {
-        2 * count as u32
-    } else {
-        MOST as u32
-    }
-}
-
-fn read_half(block: &[u16], address: u32) -> Result<u8, Refusal>
-    ensures { λ r. ⌜ numbered r ≡ read-at (of-words (now (block .entry))) address ⌝ }
-{
-    if address >= word_size(block) {
-        return Err(Refusal::NoSuchAddress);
-    }
-    Ok(half_of(word_at(block, (address / 2) as usize), address))
-}
-
-fn put_half(block: &mut [u16], address: u32, value: u8) -> Result<(), Refusal>
-    ensures answer { λ r. ⌜ numbered r ≡ put-at (of-words (now (block .entry))) address ⌝ }
-    ensures after { λ _. ⌜ of-words (now (block .exit)) ≡ set (of-words (now (block .entry))) address value ⌝ }
-    ensures rest { λ _. ⌜ drop 8388608 (now (block .exit)) ≡ drop 8388608 (now (block .entry)) ⌝ }
-{
-    if address >= word_size(block) {
-        return Err(Refusal::NoSuchAddress);
-    }
     let place = (address / 2) as usize;
     block[place] = with_half(block[place], address, value);
-    Ok(())
 }
 
 // A lent block of 16-bit words, of which at most the first 8,388,608 are display memory.
@@ -207,11 +160,19 @@ pub impl Memory for WordBoard<'_> as WordBoardMemory {
     ghost sound = { λ b. words-sound (now (b .block)) };
 
     fn size(&self) -> u32 {
-        word_size(self.block)
+        let count = self.block.len();
+        if count < MOST / 2 {
+            2 * count as u32
+        } else {
+            MOST as u32
+        }
     }
 
     fn read(&self, address: u32) -> Result<u8, Refusal> {
-        read_half(self.block, address)
+        if address >= self.size() {
+            return Err(Refusal::NoSuchAddress);
+        }
+        Ok(half_of(word_at(self.block, (address / 2) as usize), address))
     }
 
     fn put(&mut self, address: u32, value: u8) -> Result<(), Refusal>
@@ -219,6 +180,10 @@ pub impl Memory for WordBoard<'_> as WordBoardMemory {
         ensures after { λ _. ⌜ of-words (now (now (self .exit) .block)) ≡ set (of-words (now (now (self .entry) .block))) address value ⌝ }
         ensures rest { λ _. ⌜ drop 8388608 (now (now (self .exit) .block)) ≡ drop 8388608 (now (now (self .entry) .block)) ⌝ }
     {
-        put_half(self.block, address, value)
+        if address >= self.size() {
+            return Err(Refusal::NoSuchAddress);
+        }
+        put_half(self.block, address, value);
+        Ok(())
     }
 }

@@ -5,13 +5,18 @@ ghost use Prim.Native.Nat.{ℕ, _+_, _<_};
 ghost use lib.ListN.{length, getD};
 ghost use Rattle.refusal.specs.Numbers.{numbered};
 ghost use Rattle.memory.specs.Bytes.{read-at};
-ghost use Rattle.panel.specs.State.{seen, fresh, busy, doing-of, kept, written, answer-of, after-of, with-doing, register-read, run-answer, run-after, stop-answer, status-of};
+ghost use Rattle.job.specs.Works.{work-of, clearing};
+ghost use Rattle.panel.specs.Registers.{settings-of};
+ghost use Rattle.panel.specs.State.{idle, seen, fresh, busy, doing-of, kept, written, started-in, under-way, still-drawing, with-register, answer-of, after-of, with-doing, register-read, run-answer, run-after, stop-answer, status-of};
 use crate::activity::Activity;
 use crate::panel::Panel;
 use crate::registers::Registers;
 use colour::Palette;
+use job::Begun;
+use job::Draft;
 use memory::Memory;
 use refusal::Refusal;
+use std::mem;
 
 // The register whose bit 4 starts an operation, and the one that opens a palette load.
 const CONTROL: u8 = 0x90;
@@ -29,6 +34,29 @@ fn stored_value(register: u8, value: u8) -> u8
         value & 0xEF
     } else {
         value
+    }
+}
+
+// The host serves an operation that was begun, or memory does.
+fn under_way(begun: Begun) -> Activity
+    ensures { λ r. ⌜ doing-of r ≡ under-way (work-of begun) ⌝ }
+{
+    if begun.awaits() {
+        Activity::Awaiting(begun)
+    } else {
+        Activity::Drawing(begun)
+    }
+}
+
+// An operation ends with its last pixel.
+fn still_drawing(begun: Begun) -> Activity
+    ensures { λ r. ⌜ doing-of r ≡ still-drawing (work-of begun) ⌝ }
+{
+    if begun.runs() {
+        Activity::Drawing(begun)
+    } else {
+        let _ = begun.close();
+        Activity::Idle
     }
 }
 
@@ -63,7 +91,23 @@ impl<M: Memory> Panel<M> {
     {
         match self.activity {
             Activity::Idle => false,
-            Activity::Drawing(_) | Activity::PaletteLoad => true,
+            Activity::Drawing(_) | Activity::Awaiting(_) | Activity::PaletteLoad => true,
+        }
+    }
+
+    // Starts an operation by a write of 90h.
+    fn start(&mut self, value: u8) -> Result<(), Refusal>
+        ensures answer { λ r. ⌜ numbered r ≡ answer-of (started-in (with-register (seen bytes (now (self .entry))) 0x90 value) (clearing (settings-of (now (self .entry) .registers .places) value) (length (bytes (now (self .entry) .memory))))) ⌝ }
+        ensures after { λ _. ⌜ seen bytes (now (self .exit)) ≡ after-of (seen bytes (now (self .entry))) (started-in (with-register (seen bytes (now (self .entry))) 0x90 value) (clearing (settings-of (now (self .entry) .registers .places) value) (length (bytes (now (self .entry) .memory))))) ⌝ }
+    {
+        match Draft::new(self.registers.settings(value)).clear(&self.memory) {
+            Ok(cleared) => {
+                let begun = cleared.begin();
+                self.registers.set(CONTROL, stored_value(CONTROL, value));
+                self.activity = under_way(begun);
+                Ok(())
+            }
+            Err(declined) => Err(declined.refusal),
         }
     }
 
@@ -78,10 +122,7 @@ impl<M: Memory> Panel<M> {
             return Err(Refusal::Busy);
         }
         if register == CONTROL && value / 16 % 2 == 1 {
-            let begun = self.registers.settings().begin(self.memory.size())?;
-            self.registers.set(register, stored_value(register, value));
-            self.activity = Activity::Drawing(begun);
-            return Ok(());
+            return self.start(value);
         }
         self.registers.set(register, stored_value(register, value));
         if register == PALETTE && value % 4 == 3 {
@@ -98,36 +139,46 @@ impl<M: Memory> Panel<M> {
         }
         let value = self.registers.value(register);
         match self.activity {
-            Activity::Drawing(_) if register == CONTROL => Ok(value | 0x10),
+            Activity::Drawing(_) | Activity::Awaiting(_) if register == CONTROL => Ok(value | 0x10),
             _ => Ok(value),
         }
     }
 
     // Draws as many pixels as are allowed and left of the operation under way.
     pub fn run(&mut self, pixels: u32) -> Result<u32, Refusal>
-        ensures answer { λ r. ⌜ numbered r ≡ run-answer (seen bytes (now (self .entry)) .doing) pixels ⌝ }
+        ensures answer { λ r. ⌜ numbered r ≡ run-answer (seen bytes (now (self .entry))) (seen bytes (now (self .entry)) .doing) pixels ⌝ }
         ensures after { λ _. ⌜ seen bytes (now (self .exit)) ≡ run-after (seen bytes (now (self .entry))) (seen bytes (now (self .entry)) .doing) pixels ⌝ }
     {
-        let Activity::Drawing(mut begun) = self.activity else {
-            return Err(Refusal::NothingToRun);
-        };
-        let count = begun.run(&mut self.memory, pixels);
-        self.activity = if begun.left() == 0 {
-            Activity::Idle
-        } else {
-            Activity::Drawing(begun)
-        };
-        Ok(count)
+        match mem::replace(&mut self.activity, Activity::Idle) {
+            Activity::Drawing(mut begun) => match begun.run(
+                &mut self.memory,
+                &self.palette,
+                pixels,
+            ) {
+                Ok(count) => {
+                    self.activity = still_drawing(begun);
+                    Ok(count)
+                }
+                Err(refusal) => {
+                    self.activity = Activity::Drawing(begun);
+                    Err(refusal)
+                }
+            },
+            other => {
+                self.activity = other;
+                Err(Refusal::NothingToRun)
+            }
+        }
     }
 
     // Ends what is under way, and answers the pixels that it drew.
     pub fn stop(&mut self) -> Result<u32, Refusal>
         ensures answer { λ r. ⌜ numbered r ≡ stop-answer (seen bytes (now (self .entry)) .doing) ⌝ }
-        ensures after { λ _. ⌜ seen bytes (now (self .exit)) ≡ with-doing (seen bytes (now (self .entry))) Rattle.panel.specs.State.idle ⌝ }
+        ensures after { λ _. ⌜ seen bytes (now (self .exit)) ≡ with-doing (seen bytes (now (self .entry))) idle ⌝ }
     {
-        let drawn = match self.activity {
+        let drawn = match &self.activity {
             Activity::Idle => return Err(Refusal::NothingUnderWay),
-            Activity::Drawing(begun) => begun.drawn(),
+            Activity::Drawing(begun) | Activity::Awaiting(begun) => begun.drawn(),
             Activity::PaletteLoad => 0,
         };
         self.activity = Activity::Idle;

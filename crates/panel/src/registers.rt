@@ -2,7 +2,7 @@
 ghost use mathlib.Core.Path.{_≡_};
 ghost use Prim.Native.Nat.{ℕ, _+_, _*_, _%_, _<_};
 ghost use lib.ListN.{length, getD, set, replicate};
-ghost use Rattle.panel.specs.Registers.{exists, two, four, settings-of};
+ghost use Rattle.panel.specs.Registers.{exists, two, four, surface-at, colour-at, settings-of};
 use colour::Colour;
 use job::Settings;
 use job::Surface;
@@ -55,26 +55,49 @@ impl Registers {
         self.two_bytes(register) as u32 + 65536 * self.two_bytes(register + 2) as u32
     }
 
-    // What the registers set for an operation.
-    pub(crate) fn settings(&self) -> Settings
-        ensures { λ r. ⌜ r ≡ settings-of (now (self .entry) .places) ⌝ }
+    // A source or the destination, whose four numbers begin at a register.
+    fn surface(&self, depth: u8, register: u8) -> Surface
+        requires { ⌜ register < 240 ⌝ }
+        ensures { λ r. ⌜ r ≡ surface-at (now (self .entry) .places) depth register ⌝ }
     {
+        Surface {
+            depth,
+            start: self.four_bytes(register),
+            image: self.two_bytes(register + 4),
+            left: self.two_bytes(register + 6),
+            top: self.two_bytes(register + 8),
+        }
+    }
+
+    fn colour(&self, register: u8) -> Colour
+        requires { ⌜ register < 254 ⌝ }
+        ensures { λ r. ⌜ r ≡ colour-at (now (self .entry) .places) register ⌝ }
+    {
+        Colour {
+            red: self.value(register),
+            green: self.value(register + 1),
+            blue: self.value(register + 2),
+        }
+    }
+
+    // What the registers set for an operation that a write of 90h starts.
+    pub(crate) fn settings(&self, control: u8) -> Settings
+        ensures { λ r. ⌜ r ≡ settings-of (now (self .entry) .places) control ⌝ }
+    {
+        let operation = self.value(0x91);
+        let depths = self.value(0x92);
         Settings {
-            operation: self.value(0x91) % 16,
-            target: Surface {
-                depth: self.value(0x92) % 4,
-                start: self.four_bytes(0xA7),
-                image: self.two_bytes(0xAB),
-                left: self.two_bytes(0xAD),
-                top: self.two_bytes(0xAF),
-            },
+            operation: operation % 16,
+            code: operation / 16,
+            large: control % 2 == 1,
+            level: self.value(0xB5) % 64,
+            first: self.surface(depths / 32 % 4, 0x93),
+            second: self.surface(depths / 4 % 8, 0x9D),
+            target: self.surface(depths % 4, 0xA7),
             width: self.two_bytes(0xB1),
             height: self.two_bytes(0xB3),
-            foreground: Colour {
-                red: self.value(0xD2),
-                green: self.value(0xD3),
-                blue: self.value(0xD4),
-            },
+            foreground: self.colour(0xD2),
+            background: self.colour(0xD5),
         }
     }
 }

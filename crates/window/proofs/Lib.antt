@@ -1,2 +1,4 @@
 pub mod Limits
 pub mod Values
+pub mod Frames
+pub mod Places

@@ -57,3 +57,7 @@ stored-again m n a w i v h e =
     let q : w - i ≡ (w - (i + 1)) + 1 = omega arith in
     let p : a + (i + 1) ≡ a + i + 1 = omega arith in
     rw (e, p, q, stored-more m (a + i) (w - (i + 1)) v)
+
+pub value-one : (m : List ℕ) (a : ℕ) → getD m a 0 ≡ value-at m a 1
+unfolding value-at
+value-one m a = omega arith

@@ -1,6 +1,7 @@
 -- Where the pixels of a window lie.
 use mathlib.Core.Path.{_≡_}
 use mathlib.Core.Bool.{cond}
+use lib.Dec.{eqb}
 use Prim.Native.Nat.{ℕ, _+_, _-_, _*_, _/_, _%_}
 use Rattle.std.specs.declared.option.Option.{Option}
 use Rattle.std.specs.declared.option.Option.the-variants.{Some, None}
@@ -38,6 +39,11 @@ pixels a = a .width * a .height
 -- where pixel k begins, at b bytes a pixel: k counts row by row from the top, from left to right
 unfoldable pub place : Area → ℕ → ℕ → ℕ
 place a b k = a .start + ((a .top + k / a .width) * a .image + a .left + k % a .width) * b
+
+-- the pixel of a window that stands at pixel k of a rectangle with so many columns, where copies of the window lie
+-- side by side and below one another; no columns have the first pixel everywhere
+abbrev pub cell : Area → ℕ → ℕ → ℕ
+cell a columns k = cond (eqb columns 0) 0 (k / columns % a .height * a .width + k % columns % a .width)
 
 -- the first address past the window's last pixel
 abbrev pub reach : Area → ℕ → ℕ

@@ -5,7 +5,7 @@ ghost use lib.ListN.{length, getD, set};
 use memory::Memory;
 
 // The byte at an address, or 0 where there is none.
-pub(crate) fn byte_at<M: Memory>(memory: &M, address: u64) -> u8
+pub fn byte_at<M: Memory>(memory: &M, address: u64) -> u8
     ensures { λ r. ⌜ r ≡ getD (bytes (now (memory .entry))) address 0 ⌝ }
 {
     if address < memory.size() as u64 {
@@ -16,7 +16,7 @@ pub(crate) fn byte_at<M: Memory>(memory: &M, address: u64) -> u8
 }
 
 // Puts a byte; past memory there is nothing to change.
-pub(crate) fn put_byte<M: Memory>(memory: &mut M, address: u64, byte: u8)
+pub fn put_byte<M: Memory>(memory: &mut M, address: u64, byte: u8)
     ensures { λ _. ⌜ bytes (now (memory .exit)) ≡ set (bytes (now (memory .entry))) address byte ⌝ }
 {
     if address < memory.size() as u64 {

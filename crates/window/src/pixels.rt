@@ -2,10 +2,11 @@
 ghost use mathlib.Core.Path.{_≡_};
 ghost use Prim.Native.Nat.{ℕ, _+_, _*_, _^_, _<_, _≤_};
 ghost use Rattle.window.specs.Limits.{side, within};
-ghost use Rattle.window.specs.Places.{Area, area-of, window-at, shown, pixels, place, reach};
+ghost use Rattle.window.specs.Places.{Area, area-of, window-at, shown, pixels, place, cell, reach};
 ghost use Rattle.window.specs.Values.{value-at, stored};
 use crate::bytes::byte_at;
 use crate::bytes::put_byte;
+use crate::size::PixelSize;
 use crate::window::SIDE_LIMIT;
 use crate::window::Window;
 use colour::Readable;
@@ -56,6 +57,12 @@ impl Window {
         })
     }
 
+    pub fn height(&self) -> u16
+        ensures { λ r. ⌜ r ≡ area-of (now (self .entry)) .height ⌝ }
+    {
+        self.height // in rows
+    }
+
     // How many pixels the window has.
     pub fn pixels(&self) -> u32
         ensures { λ r. ⌜ r ≡ pixels (area-of (now (self .entry))) ⌝ }
@@ -74,6 +81,19 @@ impl Window {
         let row = self.top as u64 + (k / columns) as u64;
         let pixel = row * self.image as u64 + self.left as u64 + (k % columns) as u64;
         self.start as u64 + pixel * bytes_per_pixel as u64
+    }
+
+    // The pixel of the window that stands at pixel k of a rectangle so many columns wide, where copies of the window
+    // lie side by side and below one another.
+    pub fn cell(&self, columns: u16, k: u32) -> u32
+        ensures { λ r. ⌜ r ≡ cell (area-of (now (self .entry))) columns k ⌝ }
+    {
+        let columns = columns as u32;
+        if columns == 0 {
+            return 0;
+        }
+        let row = k / columns % self.height as u32;
+        row * self.width as u32 + k % columns % self.width as u32
     }
 
     // The first address past the last pixel.
@@ -109,25 +129,35 @@ fn write_value<M: Memory>(memory: &mut M, at: u64, bytes_per_pixel: u8, value: u
     }
 }
 
+impl PixelSize {
+    // The bytes of a format's pixel.
+    pub fn of<F: Readable>(format: &F) -> PixelSize
+        ensures { λ r. ⌜ r .bytes ≡ F·Readable .format (now (format .entry)) .width ⌝ }
+    {
+        PixelSize {
+            bytes: format.bytes_per_pixel(),
+        }
+    }
+
+    pub fn bytes(&self) -> u8
+        ensures { λ r. ⌜ r ≡ now (self .entry) .bytes ⌝ }
+    {
+        self.bytes // 1 to 4 where a format gave it
+    }
+}
+
 impl Window {
     // The value of pixel k.
-    pub fn load<F: Readable, M: Memory>(&self, format: &F, memory: &M, k: u32) -> u32
-        ensures { λ r. ⌜ r ≡ value-at (M·Memory .bytes (now (memory .entry))) (place (area-of (now (self .entry))) (F·Readable .format (now (format .entry)) .width) k) (F·Readable .format (now (format .entry)) .width) ⌝ }
+    pub fn load<M: Memory>(&self, size: PixelSize, memory: &M, k: u32) -> u32
+        ensures { λ r. ⌜ r ≡ value-at (bytes (now (memory .entry))) (place (area-of (now (self .entry))) (size .bytes) k) (size .bytes) ⌝ }
     {
-        let bytes_per_pixel = format.bytes_per_pixel();
-        read_value(memory, self.address(bytes_per_pixel, k), bytes_per_pixel)
+        read_value(memory, self.address(size.bytes, k), size.bytes)
     }
 
     // Stores a value as pixel k.
-    pub fn store<F: Readable, M: Memory>(&self, format: &F, memory: &mut M, k: u32, value: u32)
-        ensures { λ _. ⌜ M·Memory .bytes (now (memory .exit)) ≡ stored (M·Memory .bytes (now (memory .entry))) (place (area-of (now (self .entry))) (F·Readable .format (now (format .entry)) .width) k) (F·Readable .format (now (format .entry)) .width) value ⌝ }
+    pub fn store<M: Memory>(&self, size: PixelSize, memory: &mut M, k: u32, value: u32)
+        ensures { λ _. ⌜ bytes (now (memory .exit)) ≡ stored (bytes (now (memory .entry))) (place (area-of (now (self .entry))) (size .bytes) k) (size .bytes) value ⌝ }
     {
-        let bytes_per_pixel = format.bytes_per_pixel();
-        write_value(
-            memory,
-            self.address(bytes_per_pixel, k),
-            bytes_per_pixel,
-            value,
-        );
+        write_value(memory, self.address(size.bytes, k), size.bytes, value);
     }
 }
