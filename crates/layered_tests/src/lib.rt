@@ -1,0 +1,3 @@
+// Small pictures through layers over both boards.
+#[cfg(test)]
+mod pictures;
