@@ -82,7 +82,7 @@ impl Begun {
     pub fn drawn(&self) -> u32
         ensures { λ r. ⌜ r ≡ work-of (now (self .entry)) .drawn ⌝ }
     {
-        self.progress.drawn // shown or not, each pixel counts
+        self.progress.drawn // those that their rule left count too
     }
 
     // Ends the job.
