@@ -1,57 +1,58 @@
 // The bench: lines in, panel calls, lines out.
 ghost use Rattle.std.specs.Prelude.{◌≡◌, ℕ, ◌<◌, ◌≤◌, List, [], ◌∷◌, ◌++◌, replicate, OnOk};
-ghost use Rattle.calls.specs.Calls.{call_of as made-call};
-ghost use Rattle.calls.specs.Replies.{reply_of as call-reply};
+ghost use Rattle.refusal.specs.Numbers.{numbered};
 ghost use Rattle.panel.specs.State.{seen, fresh};
 ghost use Rattle.bench_lines.specs.Commands.{call_of, command_of};
 ghost use Rattle.bench_lines.specs.Answers.{reply_of};
-ghost use Rattle.bench.specs.Replies.{printed, line_reply, line_after};
+ghost use Rattle.bench.specs.Replies.{done_reply, count_reply, byte_reply, call_reply, call_after, line_reply, line_after};
 ghost use Rattle.bench.specs.Scripts.{lines, transcript, Replayed};
 
 use bench_lines::{Answer, Command};
-use calls::{Answer as CallAnswer, Call};
 use memory::{ByteBoard, Memory};
 use panel::Panel;
+use refusal::Refusal;
 use std::alloc::AllocError;
 
-// The call that a command is.
-fn call(command: &Command) -> Call<'_>
-    ensures { made-call result ≡ call_of command.now }
+fn done(res: Result<(), Refusal>) -> Answer
+    ensures { reply_of result ≡ done_reply (numbered res) }
 {
-    match command {
-        Command::Write { register, value } => Call::Write {
-            register: *register,
-            value: *value,
-        },
-        Command::Read { register } => Call::Read {
-            register: *register,
-        },
-        Command::Burst(payload) => Call::Burst(payload.bytes()),
-        Command::Run { pixels } => Call::Run {
-            pixels: *pixels as u32,
-        },
-        Command::Stop => Call::Stop,
-        Command::Status => Call::Status,
-        Command::Memory { address } => Call::Memory { address: *address },
+    match res {
+        Ok(()) => Answer::Done,
+        Err(refusal) => Answer::Refused(refusal),
     }
 }
 
-// What is printed for the answer of a call.
-fn printed(answer: CallAnswer) -> Answer
-    ensures { reply_of result ≡ printed (call-reply answer) }
+fn count(res: Result<u32, Refusal>) -> Answer
+    ensures { reply_of result ≡ count_reply (numbered res) }
 {
-    match answer {
-        CallAnswer::Write(Ok(())) => Answer::Done,
-        CallAnswer::Read(Ok(byte)) | CallAnswer::Memory(Ok(byte)) | CallAnswer::Status(byte) =>
-            Answer::Byte(byte),
-        CallAnswer::Burst(Ok((taken, drawn))) => Answer::Counts { taken, drawn },
-        CallAnswer::Run(Ok(pixels)) | CallAnswer::Stop(Ok(pixels)) => Answer::Count(pixels),
-        CallAnswer::Write(Err(refusal))
-        | CallAnswer::Read(Err(refusal))
-        | CallAnswer::Burst(Err(refusal))
-        | CallAnswer::Run(Err(refusal))
-        | CallAnswer::Stop(Err(refusal))
-        | CallAnswer::Memory(Err(refusal)) => Answer::Refused(refusal),
+    match res {
+        Ok(pixels) => Answer::Count(pixels),
+        Err(refusal) => Answer::Refused(refusal),
+    }
+}
+
+fn byte(res: Result<u8, Refusal>) -> Answer
+    ensures { reply_of result ≡ byte_reply (numbered res) }
+{
+    match res {
+        Ok(value) => Answer::Byte(value),
+        Err(refusal) => Answer::Refused(refusal),
+    }
+}
+
+// Makes the call that a command is. A burst is not built yet, and its line counts as malformed.
+fn perform<M: Memory>(panel: &mut Panel<M>, command: Command) -> Answer
+    ensures answer { reply_of result ≡ call_reply (seen bytes panel.old) (call_of command) }
+    ensures after { seen bytes panel.new ≡ call_after (seen bytes panel.old) (call_of command) }
+{
+    match command {
+        Command::Write { register, value } => done(panel.write(register, value)),
+        Command::Read { register } => byte(panel.read(register)),
+        Command::Burst(_) => Answer::Malformed,
+        Command::Run { pixels } => count(panel.run(pixels as u32)),
+        Command::Stop => count(panel.stop()),
+        Command::Status => Answer::Byte(panel.status()),
+        Command::Memory { address } => byte(panel.memory_read(address)),
     }
 }
 
@@ -61,7 +62,7 @@ pub fn respond<M: Memory>(panel: &mut Panel<M>, line: &[u8]) -> Answer
     ensures after { seen bytes panel.new ≡ line_after (seen bytes panel.old) (command_of line.now) }
 {
     match Command::parse(line) {
-        Some(command) => printed(panel.make(call(&command))),
+        Some(command) => perform(panel, command),
         None => Answer::Malformed,
     }
 }

@@ -5,8 +5,7 @@ use Rattle.bench_lines.proofs.Bursts.{burst_shaped}
 use Rattle.std.specs.List.{flat_map, AllByRecursion as All}
 use Rattle.bench_lines.specs.Digits.{both_of, byte_at}
 use Rattle.bench_lines.specs.Answers.{digit, hex_byte}
-use Rattle.calls.specs.Calls.{Call, write, read, burst, run, stop, status, memory}
-use Rattle.bench_lines.specs.Commands.{command_of, bytes_at, as_burst, with_first}
+use Rattle.bench_lines.specs.Commands.{Call, write, read, burst, run, stop, status, memory, command_of, bytes_at, as_burst, with_first}
 use Rattle.bench_lines.specs.Spelling.{spelled, Sayable}
 use Rattle.bench_lines.proofs.Fields.{byte_reads}
 

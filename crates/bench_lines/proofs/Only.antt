@@ -5,8 +5,7 @@ use Rattle.std.proofs.lemmas.Bool.{eqb-true, leb-true, and_parts, cases_Bool, co
 use Rattle.std.proofs.lemmas.List.{drop_more, drop_all}
 use Rattle.bench_lines.specs.Digits.{both_of, byte_at, spaced}
 use Rattle.bench_lines.specs.Answers.{hex_byte}
-use Rattle.calls.specs.Calls.{Call, write, read, burst, run, stop, status, memory}
-use Rattle.bench_lines.specs.Commands.{command_of, bytes_at, as_burst, with_first, write_line, read_register, run_line, memory_line, burst_line, alone}
+use Rattle.bench_lines.specs.Commands.{Call, write, read, burst, run, stop, status, memory, command_of, bytes_at, as_burst, with_first, write_line, read_register, run_line, memory_line, burst_line, alone}
 use Rattle.bench_lines.specs.Spelling.{spelled, Sayable}
 use Rattle.bench_lines.proofs.Fields.{none_some, cond_some, both_some, space_spelled, byte_spelled, count_bytes, address_bytes}
 

@@ -4,13 +4,11 @@ use Rattle.refusal.specs.Numbers.{number_of}
 use Rattle.bench_lines.specs.declared.answer.Answer.{Answer}
 use Rattle.bench_lines.specs.declared.answer.Answer.TheVariants as answer
 
--- an answer as it is written, a refusal by its number
+-- what a call answered, a refusal by its number
 pub data Reply : Type 0 where
   done : Reply
   byte : ℕ → Reply
   count : ℕ → Reply
-  -- the bytes taken and the pixels drawn
-  counts : ℕ → ℕ → Reply
   refused : ℕ → Reply
   malformed : Reply
 
@@ -18,7 +16,6 @@ abbrev pub reply_of : Answer → Reply
 reply_of answer.Done = done
 reply_of (answer.Byte b) = byte b
 reply_of (answer.Count n) = count n
-reply_of (answer.Counts t n) = counts t n
 reply_of (answer.Refused r) = refused (number_of r)
 reply_of answer.Malformed = malformed
 
@@ -42,7 +39,6 @@ abbrev pub reply_text : Reply → List ℕ
 reply_text done = codes "ok"
 reply_text (byte b) = codes "ok " ++ hex_byte b
 reply_text (count n) = codes "ok " ++ hex_count n
-reply_text (counts t n) = codes "ok " ++ hex_count t ++ codes " " ++ hex_count n
 reply_text (refused n) = codes "no " ++ decimal n
 reply_text malformed = codes "??"
 

@@ -1,10 +1,19 @@
 -- Which command a line is.
 use Rattle.std.specs.Prelude.{ℕ, zero, suc, ◌+◌, ◌-◌, ◌*◌, ◌/◌, ◌%◌, min, Bool, cond, ◌&&◌, List, [], ◌∷◌, ◌++◌, length, take, Some, None, Option, ◌==◌, nat_le, slice_index_or}
-use Rattle.calls.specs.Calls.{Call, write, read, burst, run, stop, status, memory}
 use Rattle.bench_lines.specs.declared.command.Payload.{Payload}
 use Rattle.bench_lines.specs.declared.command.Command.{Command}
 use Rattle.bench_lines.specs.declared.command.Command.TheVariants as command
 use Rattle.bench_lines.specs.Digits.{both_of, byte_at, spaced}
+
+-- a call with its values
+pub data Call : Type 0 where
+  write : ℕ → ℕ → Call
+  read : ℕ → Call
+  burst : List ℕ → Call
+  run : ℕ → Call
+  stop : Call
+  status : Call
+  memory : ℕ → Call
 
 -- the bytes of a burst line
 abbrev pub sent : Payload → List ℕ

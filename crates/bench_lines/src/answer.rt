@@ -1,6 +1,6 @@
 // An answer line: "ok" with what was answered, "no" with a refusal's number, or "??".
-ghost use Rattle.std.specs.Prelude.{◌≡◌, ℕ, ◌+◌, ◌*◌, ◌/◌, ◌%◌, ◌<◌, ◌≤◌, true, List, [], ◌∷◌, ◌++◌, length, is_ok, vec_len, vec_capacity, OnOk};
-ghost use Rattle.bench_lines.specs.Answers.{counts, reply_of, reply_line, digit, hex_byte, hex_count, decimal};
+ghost use Rattle.std.specs.Prelude.{◌≡◌, ℕ, ◌+◌, ◌*◌, ◌/◌, ◌%◌, ◌<◌, List, [], ◌∷◌, ◌++◌, OnOk};
+ghost use Rattle.bench_lines.specs.Answers.{reply_of, reply_line, digit, hex_byte, hex_count, decimal};
 
 use refusal::Refusal;
 use std::alloc::AllocError;
@@ -10,14 +10,12 @@ pub enum Answer {
     Done,
     Byte(u8),
     Count(u32),
-    // The bytes taken and the pixels drawn.
-    Counts { taken: usize, drawn: u32 },
     Refused(Refusal),
     Malformed,
 }
 
 // The character of a hexadecimal digit; only the lowest four bits count.
-fn digit_of(value: u64) -> u8
+fn digit_of(value: u32) -> u8
     ensures { result ≡ digit (value % 16) }
 {
     let value = (value % 16) as u8;
@@ -31,10 +29,10 @@ fn digit_of(value: u64) -> u8
 fn byte_digits(value: u8) -> [u8; 2]
     ensures { result ≡ hex_byte value }
 {
-    [digit_of(value as u64 / 16), digit_of(value as u64)]
+    [digit_of(value as u32 / 16), digit_of(value as u32)]
 }
 
-fn count_digits(value: u64) -> [u8; 4]
+fn count_digits(value: u32) -> [u8; 4]
     ensures { result ≡ hex_count value }
 {
     [
@@ -45,14 +43,6 @@ fn count_digits(value: u64) -> [u8; 4]
     ]
 }
 
-fn counts_line(taken: usize, drawn: u32) -> [u8; 13]
-    ensures { result ≡ reply_line (counts taken drawn) }
-{
-    let [a, b, c, d] = count_digits(taken as u64);
-    let [e, f, g, h] = count_digits(drawn as u64);
-    [b'o', b'k', b' ', a, b, c, d, b' ', e, f, g, h, b'\n']
-}
-
 fn decimal_digits(value: u8) -> [u8; 2]
     ensures { result ≡ decimal value }
 {
@@ -60,10 +50,9 @@ fn decimal_digits(value: u8) -> [u8; 2]
 }
 
 impl Answer {
-    // Writes the answer's line, its line feed with it. Where there is room for the line it does not fail.
+    // Writes the answer's line, its line feed with it.
     pub fn write_to(&self, out: &mut Vec<u8>) -> Result<(), AllocError>
-        ensures line { OnOk result (out.new.items ≡ out.old.items ++ reply_line (reply_of self.now)) }
-        ensures room { vec_len out.old + length (reply_line (reply_of self.now)) ≤ vec_capacity out.old → is_ok result ≡ true }
+        ensures { OnOk result (out.new.items ≡ out.old.items ++ reply_line (reply_of self.now)) }
     {
         match *self {
             Answer::Done => out.extend_from_slice(b"ok\n"),
@@ -72,10 +61,9 @@ impl Answer {
                 out.extend_from_slice(&[b'o', b'k', b' ', a, b, b'\n'])
             }
             Answer::Count(count) => {
-                let [a, b, c, d] = count_digits(count as u64);
+                let [a, b, c, d] = count_digits(count);
                 out.extend_from_slice(&[b'o', b'k', b' ', a, b, c, d, b'\n'])
             }
-            Answer::Counts { taken, drawn } => out.extend_from_slice(&counts_line(taken, drawn)),
             Answer::Refused(refusal) => {
                 let [a, b] = decimal_digits(refusal.number());
                 out.extend_from_slice(&[b'n', b'o', b' ', a, b, b'\n'])

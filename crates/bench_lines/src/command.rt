@@ -1,8 +1,7 @@
 // A command line: a letter, then fields of upper-case hexadecimal digits, a single space before each.
 ghost use Rattle.std.specs.Prelude.{◌≡◌, ℕ, ◌+◌, ◌*◌, ◌<◌, ◌≤◌, Bool, List, [], ◌∷◌, ◌++◌, length, Some, slice_index};
 ghost use Rattle.bench_lines.specs.Digits.{digit_value, byte_at, spaced};
-ghost use Rattle.calls.specs.Calls.{Call};
-ghost use Rattle.bench_lines.specs.Commands.{sent, meant, write_line, read_register, burst_line, run_line, memory_line, alone, call_of, command_of};
+ghost use Rattle.bench_lines.specs.Commands.{Call, sent, meant, write_line, read_register, burst_line, run_line, memory_line, alone, call_of, command_of};
 ghost use Rattle.bench_lines.specs.Spelling.{spelled, Sayable};
 
 // What a burst line sends: 1 to 32 bytes.

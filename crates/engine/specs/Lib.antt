@@ -1,4 +1,3 @@
 pub mod Painted
 pub mod Fed
 pub mod Laws
-pub mod Inside

@@ -2,7 +2,6 @@
 mod draw;
 mod drawing;
 mod feed;
-mod inside;
 mod waiting;
 
 pub use drawing::{Drawing, Progress};

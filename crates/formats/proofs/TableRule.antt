@@ -4,6 +4,7 @@ use Rattle.std.proofs.lemmas.Bool.{and_parts, eqb-true}
 use Rattle.colour.specs.declared.Colour.{Colour}
 use Rattle.colour.specs.Channels.{rgb}
 use Rattle.formats.specs.Packed.{colour332}
+use Rattle.formats.specs.Overlays.{field_level}
 
 module _ {A : Type 0} (same : A → A → Bool) (same_is : (a b : A) → same a b ≡ true → a ≡ b) (rule : ℕ → A) where
   -- each row from the i-th on is what the rule gives at its place
@@ -17,7 +18,7 @@ module _ {A : Type 0} (same : A → A → Bool) (same_is : (a b : A) → same a 
   from (a ∷ rows) i t (suc k) d h =
       from rows (suc i) (and_parts (same a (rule i)) (kept (suc i) rows) t).1 k d (le_of_suc-le-suc h) ∙ ap rule (suc-add i k ∙ sym (add-suc i k))
 
-  pub row : (rows : List A) → kept 0 rows ≡ true → (k : ℕ) (d : A) → k < length rows → get_or rows k d ≡ rule k
+  row : (rows : List A) → kept 0 rows ≡ true → (k : ℕ) (d : A) → k < length rows → get_or rows k d ≡ rule k
   row rows t k d h = from rows 0 t k d h ∙ ap rule (zero-add k)
 
 abbrev pub same : Colour → Colour → Bool
@@ -43,3 +44,7 @@ lowest v =
 pub colour_row : (rows : List Colour) → kept same same_is colour332 0 rows ≡ true → length rows ≡ 256
     → (v : ℕ) (d : Colour) → get_or rows (v % 256) d ≡ colour332 v
 colour_row rows t n v d = row same same_is colour332 rows t (v % 256) d (omega arith) ∙ lowest v
+
+pub level_row : (rows : List ℕ) → kept eqb eqb-true field_level 0 rows ≡ true → length rows ≡ 16
+    → (v d : ℕ) → get_or rows (v % 16) d ≡ field_level (v % 16)
+level_row rows t n v d = row eqb eqb-true field_level rows t (v % 16) d (omega arith)

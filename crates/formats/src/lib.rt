@@ -1,12 +1,14 @@
-// The canvas formats 3:3:2, 5:6:5 and 8:8:8, and the depths.
+// Pixel formats: the canvases 3:3:2, 5:6:5 and 8:8:8, and the overlays Index 2:6 and 4:4:4:4.
 ghost use Rattle.std.specs.Prelude.{◌≡◌, ℕ, ◌+◌, ◌-◌, ◌*◌, ◌/◌, ◌%◌, ◌^◌, ◌<◌, ◌≤◌};
 ghost use Rattle.formats.specs.Packed.{format332, narrow332, format565, narrow565, format888, narrow888};
 ghost use Rattle.formats.specs.Depths.{depth_format, depth_narrow};
 ghost use Rattle.formats.specs.Laws.{narrows332, narrows565, narrows888};
 
+mod overlays;
 mod tables;
 
 use colour::{Canvas, Colour, FieldWidth, Palette, Readable};
+pub use overlays::{Argb4444, Index26, OverlayKind};
 use tables::colour_in_table;
 
 #[derive(Clone, Copy, PartialEq, Eq, Debug)]

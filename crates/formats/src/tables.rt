@@ -1,8 +1,29 @@
-// The table of the 3:3:2 format, and how it is read.
-ghost use Rattle.std.specs.Prelude.{◌≡◌};
+// The tables of the formats, and how they are read.
+ghost use Rattle.std.specs.Prelude.{◌≡◌, ℕ, ◌%◌, ◌≤◌, slice_index};
 ghost use Rattle.formats.specs.Packed.{colour332};
+ghost use Rattle.formats.specs.Overlays.{index_levels, field_level};
 
 use colour::Colour;
+
+// The levels of the index format, by two bits.
+const INDEX_LEVELS: [u8; 4] = [0, 10, 21, 32];
+
+pub fn index_level(bits: u32) -> u8
+    ensures { result ≡ slice_index index_levels (bits % 4) }
+{
+    let table: &[u8; 4] = &INDEX_LEVELS;
+    table[(bits % 4) as usize]
+}
+
+// The levels of the 4:4:4:4 format, by a field of four bits.
+const FIELD_LEVELS: [u8; 16] = [0, 2, 4, 6, 8, 10, 12, 14, 16, 18, 20, 22, 24, 26, 28, 32];
+
+pub fn field_level(field: u32) -> u8
+    ensures { result ≡ field_level (field % 16) }
+{
+    let table: &[u8; 16] = &FIELD_LEVELS;
+    table[(field % 16) as usize]
+}
 
 pub fn colour_in_table(value: u32) -> Colour
     ensures { result ≡ colour332 value }

@@ -11,12 +11,12 @@ use Rattle.source.specs.Origins.{Origin, origin_of, taken_from, taken}
 use Rattle.source.specs.Reaches.{reach_of, Has, TakenInside}
 use Rattle.source.proofs.Reaches.{taken_inside}
 use Rattle.engine.specs.declared.drawing.Drawing.{Drawing}
-use Rattle.settings.specs.declared.operation.FirstKind.{FirstKind}
-use Rattle.settings.specs.declared.operation.FirstKind.TheVariants.{Nothing, HostPixels, Pixels, Pattern, HostBits, Bits}
-use Rattle.settings.specs.declared.settings.Settings.{Settings}
-use Rattle.settings.specs.Operations.{first_kind, uses_second}
-use Rattle.settings.specs.Plans.{Plan, plan_of, plan_at, first_at, second_at}
-use Rattle.settings.specs.Grounds.{inside}
+use Rattle.job.specs.declared.operation.FirstKind.{FirstKind}
+use Rattle.job.specs.declared.operation.FirstKind.TheVariants.{Nothing, HostPixels, Pixels, Pattern, HostBits, Bits}
+use Rattle.job.specs.declared.settings.Settings.{Settings}
+use Rattle.job.specs.Operations.{first_kind, uses_second}
+use Rattle.job.specs.Plans.{Plan, plan_of, plan_at, first_at, second_at}
+use Rattle.job.specs.Grounds.{inside}
 use Rattle.job.specs.Bounds.{StaysInside}
 
 -- each pixel of the rectangle is one that the sources have

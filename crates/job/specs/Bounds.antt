@@ -5,7 +5,7 @@ use Rattle.window.specs.Places.{pixels, place}
 use Rattle.source.specs.Origins.{taken_from, taken}
 use Rattle.job.specs.declared.job.Cleared.{Cleared}
 use Rattle.job.specs.declared.job.Declined.{Declined}
-use Rattle.settings.specs.Plans.{Plan, plan_of}
+use Rattle.job.specs.Plans.{Plan, plan_of}
 
 -- from the first pixel to the last, what is drawn on and what is taken from memory lies below the size
 pub record StaysInside (p : Plan) (size : ℕ) : Type 0 where

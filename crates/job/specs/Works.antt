@@ -10,9 +10,9 @@ use Rattle.engine.specs.Fed.{Stage, waits, takes, fed, bytes_taken}
 use Rattle.job.specs.declared.job.Begun.{Begun}
 use Rattle.job.specs.declared.job.Cleared.{Cleared}
 use Rattle.job.specs.declared.job.Declined.{Declined}
-use Rattle.settings.specs.declared.settings.Settings.{Settings}
-use Rattle.settings.specs.Plans.{Plan, plan_of, plan_at, op_at}
-use Rattle.settings.specs.Grounds.{grounds}
+use Rattle.job.specs.declared.settings.Settings.{Settings}
+use Rattle.job.specs.Plans.{Plan, plan_of, plan_at, op_at}
+use Rattle.job.specs.Grounds.{grounds}
 
 -- what is drawn, the size of the memory that it was cleared for, the pixels drawn, and the bytes that wait
 pub record Work : Type 0 where

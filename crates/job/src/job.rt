@@ -1,13 +1,13 @@
 // A job's four states. Each call takes one and gives the next, so none can be used twice or out of turn.
 ghost use Rattle.std.specs.Prelude.{◌≡◌, true};
-ghost use Rattle.settings.specs.Plans.{plan_of};
-ghost use Rattle.settings.specs.Grounds.{inside};
+ghost use Rattle.job.specs.Plans.{plan_of};
+ghost use Rattle.job.specs.Grounds.{inside};
 
+use crate::settings::Settings;
 use engine::{Drawing, Progress};
 use formats::Depth;
 use refusal::Refusal;
 use rules::Rule;
-use settings::Settings;
 
 #[derive(Drop)]
 pub struct Draft {

@@ -1,6 +1,10 @@
 // An operation from its settings to its last pixel: drafted, cleared against a memory, begun, fed or run, and closed.
+mod clear;
 mod job;
+mod operation;
 mod run;
+mod settings;
 
 pub use job::{Begun, Cleared, Closed, Declined, Draft};
-pub use settings::{Operation, Settings, Surface};
+pub use operation::Operation;
+pub use settings::{Settings, Surface};

@@ -1,17 +1,17 @@
 // The calls of a job.
 ghost use Rattle.std.specs.Prelude.{◌≡◌, ℕ, ◌+◌, ◌-◌, ◌≤◌, min, Bool, length, Ok};
 ghost use Rattle.engine.specs.Painted.{plotted, painted};
-ghost use Rattle.settings.specs.Plans.{op_at};
+ghost use Rattle.job.specs.Plans.{op_at};
 ghost use Rattle.refusal.specs.Numbers.{numbered};
 ghost use Rattle.job.specs.Bounds.{AcceptedInside};
 ghost use Rattle.job.specs.Works.{work_of, cleared_work, clearing_of, clearing, awaits, runs, left, stage_of, at_stage, feed_answer, feed_after, run_answer, run_after, Ran, FedOnly};
 
 use crate::job::{Begun, Cleared, Closed, Declined, Draft};
+use crate::settings::Settings;
 use colour::Palette;
 use engine::{Progress, Waiting};
 use memory::Memory;
 use refusal::Refusal;
-use settings::Settings;
 
 impl Draft {
     pub fn new(settings: Settings) -> Draft

@@ -2,8 +2,8 @@
 use Rattle.std.specs.Prelude.{ℕ, ◌+◌, ◌*◌, ◌/◌, ◌%◌, Bool, cond, ◌&&◌, ◌||◌, List, ◌==◌, nat_le, slice_index}
 use Rattle.colour.specs.declared.Colour.{Colour}
 use Rattle.colour.specs.Channels.{rgb}
-use Rattle.settings.specs.declared.settings.Settings.{Settings}
-use Rattle.settings.specs.declared.settings.Surface.{Surface}
+use Rattle.job.specs.declared.settings.Settings.{Settings}
+use Rattle.job.specs.declared.settings.Surface.{Surface}
 
 -- 03h, 90h to B5h and D2h to D7h
 abbrev pub exists : ℕ → Bool

@@ -1,9 +1,8 @@
 -- A panel as plain values, and what each call answers and leaves.
-use Rattle.std.specs.Prelude.{ℕ, ◌+◌, ◌-◌, ◌/◌, ◌%◌, Bool, true, false, cond, ◌&&◌, List, [], length, set, replicate, Ok, Err, Result, ◌==◌, bit_and, bit_or, slice_index, slice_set}
+use Rattle.std.specs.Prelude.{ℕ, ◌+◌, ◌-◌, ◌/◌, ◌%◌, Bool, true, false, cond, ◌&&◌, List, length, set, replicate, Ok, Err, Result, ◌==◌, bit_and, bit_or, slice_index, slice_set}
 use Rattle.colour.specs.declared.Palette.{Palette}
-use Rattle.palette_load.specs.Loads.{Loading, waits, unfinished, loaded_by, bytes_taken}
 use Rattle.job.specs.Works as job
-use Rattle.job.specs.Works.{Work, work_of, Clearing, cleared, declined, clearing, serves, awaits, runs, at_stage, run_stage, fed_stage}
+use Rattle.job.specs.Works.{Work, work_of, Clearing, cleared, declined, clearing, serves, awaits, runs, at_stage, run_stage}
 use Rattle.panel.specs.declared.activity.Activity.{Activity}
 use Rattle.panel.specs.declared.activity.Activity.TheVariants.{Idle, Drawing, Awaiting, PaletteLoad}
 use Rattle.panel.specs.declared.panel.Panel.{Panel}
@@ -14,8 +13,7 @@ pub data Doing : Type 0 where
   idle : Doing
   drawing : Work → Doing
   awaiting : Work → Doing
-  -- a palette load: the entries loaded, and the bytes that wait
-  loading : ℕ → List ℕ → Doing
+  loading : Doing
 
 pub record State : Type 0 where
   pub memory : List ℕ
@@ -27,7 +25,7 @@ abbrev pub doing_of : Activity → Doing
 doing_of Idle = idle
 doing_of (Drawing b) = drawing (work_of b)
 doing_of (Awaiting b) = awaiting (work_of b)
-doing_of (PaletteLoad l) = loading l.entries (waits l.low)
+doing_of PaletteLoad = loading
 
 abbrev pub seen : {M : Type 0} → (M → List ℕ) → Panel M → State
 seen bytes p = record {
@@ -45,7 +43,7 @@ abbrev pub busy : Doing → Bool
 busy idle = false
 busy (drawing _) = true
 busy (awaiting _) = true
-busy (loading _ _) = true
+busy loading = true
 
 abbrev pub with_doing : State → Doing → State
 with_doing s d = record { memory = s.memory; registers = s.registers; palette = s.palette; doing = d }
@@ -87,7 +85,7 @@ written s r v =
     cond (exists r)
     (cond (busy s.doing) (Err 2)
     (cond (starts r v) (started_in (with_register s r v) (clearing (settings_of s.registers v) (length s.memory)))
-    (Ok (cond (opens r v) (with_doing (with_register s r v) (loading 0 [])) (with_register s r v)))))
+    (Ok (cond (opens r v) (with_doing (with_register s r v) loading) (with_register s r v)))))
     (Err 1)
 
 -- 90h reads with bit 4 while an operation is under way
@@ -95,7 +93,7 @@ abbrev pub shown : Doing → ℕ → ℕ → ℕ
 shown idle r v = v
 shown (drawing _) r v = cond (r == 0x90) (bit_or v 0x10) v
 shown (awaiting _) r v = cond (r == 0x90) (bit_or v 0x10) v
-shown (loading _ _) r v = v
+shown loading r v = v
 
 abbrev pub register_read : State → ℕ → Result ℕ ℕ
 register_read s r = cond (exists r) (Ok (shown s.doing r (slice_index s.registers r))) (Err 1)
@@ -104,7 +102,7 @@ abbrev pub run_answer : State → Doing → ℕ → Result ℕ ℕ
 run_answer s idle n = Err 10
 run_answer s (drawing w) n = job.run_answer w s.memory n
 run_answer s (awaiting _) n = Err 10
-run_answer s (loading _ _) n = Err 10
+run_answer s loading n = Err 10
 
 -- an operation ends with its last pixel
 abbrev pub still_drawing : Work → Doing
@@ -122,49 +120,14 @@ abbrev pub run_after : State → Doing → ℕ → State
 run_after s idle n = s
 run_after s (drawing w) n = cond (serves w s.memory && runs w) (ran s w n) s
 run_after s (awaiting _) n = s
-run_after s (loading _ _) n = s
-
--- an operation that the host serves awaits bytes up to its last pixel
-abbrev pub still_awaiting : Work → Doing
-still_awaiting w = cond (awaits w) (awaiting w) idle
-
-abbrev pub fed_in : State → Work → List ℕ → State
-fed_in s w xs = record {
-  memory = (fed_stage w s.palette s.memory xs).memory;
-  registers = s.registers;
-  palette = s.palette;
-  doing = still_awaiting (at_stage w (fed_stage w s.palette s.memory xs));
-}
-
--- a palette load ends with its last entry
-abbrev pub still_loading : Loading → Doing
-still_loading l = cond (unfinished l.entries) (loading l.entries l.waiting) idle
-
-abbrev pub loaded_in : State → Loading → State
-loaded_in s l = record { memory = s.memory; registers = s.registers; palette = l.palette; doing = still_loading l }
-
-abbrev pub load_of : State → ℕ → List ℕ → Loading
-load_of s entries waiting = record { palette = s.palette; entries = entries; waiting = waiting }
-
--- a burst answers the bytes taken and the pixels drawn; a palette load draws none
-abbrev pub burst_answer : State → Doing → List ℕ → Result (ℕ × ℕ) ℕ
-burst_answer s idle xs = Err 9
-burst_answer s (drawing _) xs = Err 9
-burst_answer s (awaiting w) xs = job.feed_answer w s.palette s.memory xs
-burst_answer s (loading entries waiting) xs = Ok (bytes_taken (load_of s entries waiting) xs, 0)
-
-abbrev pub burst_after : State → Doing → List ℕ → State
-burst_after s idle xs = s
-burst_after s (drawing _) xs = s
-burst_after s (awaiting w) xs = cond (serves w s.memory && awaits w) (fed_in s w xs) s
-burst_after s (loading entries waiting) xs = loaded_in s (loaded_by (load_of s entries waiting) xs)
+run_after s loading n = s
 
 -- a stop answers the pixels drawn
 abbrev pub stop_answer : Doing → Result ℕ ℕ
 stop_answer idle = Err 11
 stop_answer (drawing w) = Ok w.drawn
 stop_answer (awaiting w) = Ok w.drawn
-stop_answer (loading _ _) = Ok 0
+stop_answer loading = Ok 0
 
 abbrev pub status_of : Doing → ℕ
 status_of d = cond (busy d) 0x5C 0x54

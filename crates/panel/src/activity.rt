@@ -1,6 +1,5 @@
 // What is under way.
 use job::Begun;
-use palette_load::PaletteLoad;
 
 #[derive(Drop)]
 pub enum Activity {
@@ -9,6 +8,5 @@ pub enum Activity {
     Drawing(Begun),
     // the host serves the operation, and its bytes are awaited
     Awaiting(Begun),
-    // the palette is loaded, and its bytes are awaited
-    PaletteLoad(PaletteLoad),
+    PaletteLoad,
 }

@@ -12,7 +12,6 @@ use crate::registers::Registers;
 use colour::Palette;
 use job::{Begun, Draft};
 use memory::Memory;
-use palette_load::PaletteLoad;
 use refusal::Refusal;
 use std::mem;
 
@@ -89,7 +88,7 @@ impl<M: Memory> Panel<M> {
     {
         match self.activity {
             Activity::Idle => false,
-            Activity::Drawing(_) | Activity::Awaiting(_) | Activity::PaletteLoad(_) => true,
+            Activity::Drawing(_) | Activity::Awaiting(_) | Activity::PaletteLoad => true,
         }
     }
 
@@ -124,7 +123,7 @@ impl<M: Memory> Panel<M> {
         }
         self.registers.set(register, stored_value(register, value));
         if register == PALETTE && value % 4 == 3 {
-            self.activity = Activity::PaletteLoad(PaletteLoad::new());
+            self.activity = Activity::PaletteLoad;
         }
         Ok(())
     }
@@ -177,7 +176,7 @@ impl<M: Memory> Panel<M> {
         let drawn = match &self.activity {
             Activity::Idle => return Err(Refusal::NothingUnderWay),
             Activity::Drawing(begun) | Activity::Awaiting(begun) => begun.drawn(),
-            Activity::PaletteLoad(_) => 0,
+            Activity::PaletteLoad => 0,
         };
         self.activity = Activity::Idle;
         Ok(drawn)

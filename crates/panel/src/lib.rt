@@ -1,8 +1,6 @@
 // The panel: a register file, a palette and what is under way, over any memory.
 mod activity;
-mod bursts;
 mod calls;
-mod make;
 mod panel;
 mod registers;
 

@@ -1,6 +1,6 @@
 // The levels of the overlay formats.
 use colour::Overlay;
-use overlays::{Argb4444, Index26, OverlayKind};
+use formats::{Argb4444, Index26, OverlayKind};
 
 // Bits 7 and 6 choose the level, whatever the six bits below.
 #[test]

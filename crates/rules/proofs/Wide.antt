@@ -5,7 +5,7 @@ use Rattle.colour.specs.declared.Palette.{Palette}
 use Rattle.colour.specs.Channels.{Channels}
 use Rattle.colour.specs.Formats.{Format}
 use Rattle.formats.specs.Depths.{depth_format, depth_narrow}
-use Rattle.overlays.specs.OverlayKinds.{overlay_format, overlay_level}
+use Rattle.formats.specs.OverlayKinds.{overlay_format, overlay_level}
 use Rattle.pixel.proofs.Rasters.{rastered_channels}
 use Rattle.pixel.proofs.Blends.{blended_channels}
 use Rattle.rules.specs.Yields.{Wide, raster_yields, key_yields, expand_yields, expand_over_yields, blend_yields, overlay_blend_yields, fill_yields}

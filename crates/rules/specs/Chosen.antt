@@ -1,7 +1,7 @@
 -- What a rule yields that is chosen while the program runs.
 use Rattle.colour.specs.Channels.{Channels}
 use Rattle.formats.specs.Depths.{depth_format, depth_narrow}
-use Rattle.overlays.specs.OverlayKinds.{overlay_format, overlay_level}
+use Rattle.formats.specs.OverlayKinds.{overlay_format, overlay_level}
 use Rattle.rules.specs.Yields.{Yields, raster_yields, key_yields, expand_yields, expand_over_yields, blend_yields, overlay_blend_yields, fill_yields}
 use Rattle.rules.specs.declared.chosen.Rule.{Rule}
 use Rattle.rules.specs.declared.chosen.Rule.TheVariants.{Raster, Key, Expand, ExpandOver, Blend, OverlayBlend, Fill}

@@ -4,8 +4,7 @@ ghost use Rattle.rules.specs.Chosen.{rule_yields};
 
 use crate::{Blend, Expand, ExpandOver, Fill, Key, OverlayBlend, PixelRule, Raster};
 use colour::{Colour, Palette, Readable};
-use formats::Depth;
-use overlays::OverlayKind;
+use formats::{Depth, OverlayKind};
 
 #[derive(Clone, Copy)]
 pub enum Rule {

@@ -5,8 +5,7 @@ ghost use Rattle.source.specs.Rows.{rows_at};
 ghost use Rattle.worked.specs.Counts.{counted};
 
 use colour::{Canvas, Colour, FieldWidth, Overlay, Palette, Readable, entry_of_bytes};
-use formats::{Rgb332, Rgb565};
-use overlays::Index26;
+use formats::{Index26, Rgb332, Rgb565};
 use pixel::{blend_channel, raster_channel};
 use source::{BitRows, Unit};
 

@@ -25,11 +25,11 @@ loop-i-preserved g c =
     elim c.if-input-i-eq10.branch [
       | then-input-i-eq10+in-ok-write-to w ↦
           let moved = going_here s xs before start i t out c.loop-i.invariant c.loop-i-test.true (seen b c.if-input-i-eq10.panel) (vec_items c.if-input-i-eq10.out) (begun xs start i)
-          w.if-input-i-eq10.true refl (ap (seen b) w.panel_is ∙ w.respond.ensures.after)
-          (ap vec_items w.out-is ∙ w.in-ok-write-to.ensures.line ∙ ap (λ r. out ++ reply_line r) w.respond.ensures.answer) in
+          w.if-input-i-eq10.true refl (ap (seen b) w.panel-is ∙ w.respond.ensures.after)
+          (ap vec_items w.out-is ∙ w.in-ok-write-to.ensures ∙ ap (λ r. out ++ reply_line r) w.respond.ensures.answer) in
           rw w.start-is moved
       | else-input-i-eq10 w ↦
-          rw (w.panel_is, w.out-is, w.start-is) (going_there s xs before start i t out c.loop-i.invariant c.loop-i-test.true w.if-input-i-eq10.false)
+          rw (w.panel-is, w.out-is, w.start-is) (going_there s xs before start i t out c.loop-i.invariant c.loop-i-test.true w.if-input-i-eq10.false)
     ]
 
 pub returns : goal.returns

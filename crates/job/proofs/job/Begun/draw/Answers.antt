@@ -1,5 +1,5 @@
 use Rattle.std.proofs.Common.{arith}
-use Rattle.settings.specs.Plans.{plan_of}
+use Rattle.job.specs.Plans.{plan_of}
 use Rattle.job.proofs.Bounds.{target_inside}
 use Rattle.job.proofs.job.Begun.draw.Goals as goal
 

@@ -1,10 +1,10 @@
 use Rattle.std.proofs.Common.{length, sym, ap, ◌∙◌}
 use Rattle.refusal.specs.Numbers.{number_of}
-use Rattle.settings.specs.Plans.{plan_of, plan_at}
-use Rattle.settings.specs.Grounds.{grounds, inside}
+use Rattle.job.specs.Plans.{plan_of, plan_at}
+use Rattle.job.specs.Grounds.{grounds, inside}
 use Rattle.job.specs.Works.{cleared, fresh_work, judged}
 use Rattle.job.proofs.Bounds.{stays}
-use Rattle.settings.proofs.Starts.{cleared_none, declined_some, inside_none}
+use Rattle.job.proofs.Starts.{cleared_none, declined_some, inside_none}
 use Rattle.job.proofs.job.Draft.clear.Goals as goal
 
 pub invariant-of-result : goal.invariant-of-result

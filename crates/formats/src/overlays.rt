@@ -1,0 +1,105 @@
+// The overlay formats.
+ghost use Rattle.std.specs.Prelude.{◌≡◌, ℕ, ◌+◌, ◌-◌, ◌*◌, ◌/◌, ◌%◌, ◌^◌, ◌<◌, ◌≤◌};
+ghost use Rattle.formats.specs.Overlays.{index_entry, format26, level26, format4444, level4444};
+ghost use Rattle.formats.specs.OverlayKinds.{overlay_format, overlay_level};
+ghost use Rattle.formats.specs.Levels.{index_bounded, bounded4444};
+
+use crate::tables::{field_level, index_level};
+use colour::{Colour, Overlay, Palette, Readable, colour_of_entry};
+
+// Index 2:6: bits 7-6 choose a level, bits 5-0 a palette entry.
+#[derive(Clone, Copy, PartialEq, Eq, Debug)]
+pub struct Index26;
+
+impl Index26 {
+    // The palette entry that a pixel value chooses.
+    pub fn entry_number(&self, value: u32) -> u8
+        ensures { result ≡ index_entry value }
+    {
+        (value % 64) as u8
+    }
+}
+
+impl Readable for Index26 {
+    ghost format = { λ _. format26 };
+
+    fn bytes_per_pixel(&self) -> u8 {
+        1
+    }
+
+    fn colour(&self, palette: &Palette, value: u32) -> Colour {
+        palette.colour(self.entry_number(value))
+    }
+}
+
+impl Overlay for Index26 {
+    ghost levels = { λ _. level26 };
+
+    ghost bounded = { λ _ v. index_bounded (v / 64 % 4) };
+
+    fn level(&self, value: u32) -> u8 {
+        index_level(value / 64)
+    }
+}
+
+// 4:4:4:4: bits 15-12 choose a level, bits 11-0 are a colour as in a palette entry.
+#[derive(Clone, Copy, PartialEq, Eq, Debug)]
+pub struct Argb4444;
+
+impl Readable for Argb4444 {
+    ghost format = { λ _. format4444 };
+
+    fn bytes_per_pixel(&self) -> u8 {
+        2
+    }
+
+    fn colour(&self, _palette: &Palette, value: u32) -> Colour {
+        colour_of_entry((value % 4096) as u16)
+    }
+}
+
+impl Overlay for Argb4444 {
+    ghost levels = { λ _. level4444 };
+
+    ghost bounded = { λ _. bounded4444 };
+
+    fn level(&self, value: u32) -> u8 {
+        field_level(value / 4096)
+    }
+}
+
+// An overlay format that is chosen while the program runs.
+#[derive(Clone, Copy, PartialEq, Eq, Debug)]
+pub enum OverlayKind {
+    Index26,
+    Argb4444,
+}
+
+impl Readable for OverlayKind {
+    ghost format = { overlay_format };
+
+    fn bytes_per_pixel(&self) -> u8 {
+        match self {
+            OverlayKind::Index26 => Index26.bytes_per_pixel(),
+            OverlayKind::Argb4444 => Argb4444.bytes_per_pixel(),
+        }
+    }
+
+    fn colour(&self, palette: &Palette, value: u32) -> Colour {
+        match self {
+            OverlayKind::Index26 => Index26.colour(palette, value),
+            OverlayKind::Argb4444 => Argb4444.colour(palette, value),
+        }
+    }
+}
+
+impl Overlay for OverlayKind {
+    ghost levels = { overlay_level };
+
+    fn level(&self, value: u32) -> u8 {
+        match self {
+            OverlayKind::Index26 => Index26.level(value),
+            OverlayKind::Argb4444 => Argb4444.level(value),
+        }
+    }
+}

@@ -1,0 +1,33 @@
+use Rattle.std.proofs.Common.{Err, ap, ◌∙◌}
+use Rattle.std.proofs.lemmas.Result.{err_from_is_err_and}
+use Rattle.refusal.specs.Numbers.{number_of}
+use Rattle.job.specs.Plans.{plan_of}
+use Rattle.job.specs.Grounds.{plan_shown}
+use Rattle.job.proofs.Starts.{passed, outside, past, clear}
+use Rattle.job.proofs.settings.Settings.clear.Goals as goal
+
+pub returns-in-err-drawing : goal.returns-in-err-drawing
+returns-in-err-drawing c =
+    let s = c.args.self.now in
+    let o = c.in-Some.operation in
+    let code = c.in-Some.ensures.code in
+    let p = passed s c.args.size o code c.first-kind.result c.in-Some.ensures.is c.if-not-depths-taken.ensures c.first-kind.ensures c.if-not-start-fits.ensures c.if-not-level-fits.ensures in
+    let q = err_from_is_err_and c.from-residual.result c.from-residual.ensures.1 in
+    ap plan_shown q.1 ∙ ap (λ x. Err (number_of x)) q.2
+    ∙ outside s c.args.size o code p c.in-err-drawing.field-0.0 c.in-err-drawing.ensures
+
+pub returns-then-not-is-inside : goal.returns-then-not-is-inside
+returns-then-not-is-inside c =
+    let s = c.args.self.now in
+    let o = c.in-Some.operation in
+    let code = c.in-Some.ensures.code in
+    let p = passed s c.args.size o code c.first-kind.result c.in-Some.ensures.is c.if-not-depths-taken.ensures c.first-kind.ensures c.if-not-start-fits.ensures c.if-not-level-fits.ensures in
+    past s c.args.size o code p (plan_of c.in-ok-drawing.drawing) c.in-ok-drawing.ensures c.if-not-is-inside.ensures
+
+pub returns : goal.returns
+returns c =
+    let s = c.args.self.now in
+    let o = c.in-Some.operation in
+    let code = c.in-Some.ensures.code in
+    let p = passed s c.args.size o code c.first-kind.result c.in-Some.ensures.is c.if-not-depths-taken.ensures c.first-kind.ensures c.if-not-start-fits.ensures c.if-not-level-fits.ensures in
+    clear s c.args.size o code p (plan_of c.in-ok-drawing.drawing) c.in-ok-drawing.ensures c.if-not-is-inside.ensures
