@@ -5,11 +5,11 @@ use Rattle.pixel.proofs.raster_channel.Goals as goal
 pub overflow-mul-both : goal.overflow-mul-both
 overflow-mul-both c = record { fits = times_le (c.args.rule / 8 % 2) c.args.first c.args.second (omega arith) (omega arith) }
 
-pub overflow-mul-only-first : goal.overflow-mul-only-first
-overflow-mul-only-first c = record { fits = times_le (c.args.rule / 4 % 2) c.args.first (255 - c.args.second) (omega arith) (omega arith) }
+pub overflow-mul-only_first : goal.overflow-mul-only_first
+overflow-mul-only_first c = record { fits = times_le (c.args.rule / 4 % 2) c.args.first (255 - c.args.second) (omega arith) (omega arith) }
 
-pub overflow-mul-only-second : goal.overflow-mul-only-second
-overflow-mul-only-second c = record { fits = times_le (c.args.rule / 2 % 2) (255 - c.args.first) c.args.second (omega arith) (omega arith) }
+pub overflow-mul-only_second : goal.overflow-mul-only_second
+overflow-mul-only_second c = record { fits = times_le (c.args.rule / 2 % 2) (255 - c.args.first) c.args.second (omega arith) (omega arith) }
 
 pub overflow-mul-neither : goal.overflow-mul-neither
 overflow-mul-neither c = record { fits = times_le (c.args.rule % 2) (255 - c.args.first) (255 - c.args.second) (omega arith) (omega arith) }

@@ -16,7 +16,7 @@ pub returns-in-err-bytes : goal.returns-in-err-bytes
 returns-in-err-bytes c =
     let l = c.args.line.now in
     let n = (length l - 2) / 2 in
-    let shaped = burst_shaped l (omega arith) (omega arith) (omega arith) (sym c.if-not-is-space.ensures) in
+    let shaped = burst_shaped l (omega arith) (omega arith) (omega arith) (sym c.if-not-is_space.ensures) in
     let none = from_none l c.loop-i.bytes c.loop-i.i n c.loop-i-test.true (sym c.in-err-bytes.ensures) in
     ap meant c.from-residual.ensures ∙ sym (shaped ∙ ap as_burst (sym c.loop-i.invariant.1 ∙ none))
 
@@ -41,5 +41,5 @@ returns c =
     let all : Some (take n bs) ≡ bytes_at l 2 n =
     ap Some (sym (append-nil (take n bs))) ∙ ap (λ k. prefixed (take n bs) (bytes_at l (2 + 2 * n) k)) (sym none)
     ∙ ap (λ i. prefixed (take i bs) (from l i n)) (sym end) ∙ c.loop-i.invariant.1 in
-    let shaped = burst_shaped l (omega arith) (omega arith) (omega arith) (sym c.if-not-is-space.ensures) in
+    let shaped = burst_shaped l (omega arith) (omega arith) (omega arith) (sym c.if-not-is_space.ensures) in
     ap (λ k. Some (burst (take k bs))) (sym few) ∙ ap as_burst all ∙ sym shaped

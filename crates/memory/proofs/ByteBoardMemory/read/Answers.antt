@@ -5,8 +5,8 @@ use Rattle.memory.proofs.Access.{read_in}
 use Rattle.memory.proofs.Boards.{bytes_length}
 use Rattle.memory.proofs.ByteBoardMemory.read.Goals as goal
 
-pub byte-at-requires : goal.byte-at-requires
-byte-at-requires c = omega (arith, bytes_length c.args.self.now.block.now)
+pub byte_at-requires : goal.byte_at-requires
+byte_at-requires c = omega (arith, bytes_length c.args.self.now.block.now)
 
 pub returns : goal.returns
 returns c =
@@ -14,4 +14,4 @@ returns c =
     let a = c.args.address in
     let long = bytes_length bs in
     let seen = view_at (min 16777216 (length bs)) (λ k. get_or bs k 0) a (omega arith) (omega arith) in
-    ap Ok (c.byte-at.ensures ∙ sym seen) ∙ read_in (of_bytes bs) a (omega arith)
+    ap Ok (c.byte_at.ensures ∙ sym seen) ∙ read_in (of_bytes bs) a (omega arith)

@@ -10,8 +10,8 @@ returns-then-address-size c =
     let m = of_words c.args.self.now.block.now in
     record { answer = put_past m c.args.address (omega arith); after = kept_past m c.args.address c.args.value (omega arith); rest = refl }
 
-pub put-half-requires : goal.put-half-requires
-put-half-requires c = omega (arith, words_length c.args.self.now.block.now)
+pub put_half-requires : goal.put_half-requires
+put_half-requires c = omega (arith, words_length c.args.self.now.block.now)
 
 pub returns : goal.returns
 returns c =
@@ -21,6 +21,6 @@ returns c =
     let long = words_length ws in
     record {
       answer = put_in (of_words ws) a (omega arith);
-      after = ap of_words c.put-half.ensures ∙ words_put ws a v (omega arith) (omega arith);
-      rest = ap (drop 8388608) c.put-half.ensures ∙ drop-set-lt 8388608 ws (a / 2) (with_half (get_or ws (a / 2) 0) a v) (omega arith);
+      after = ap of_words c.put_half.ensures ∙ words_put ws a v (omega arith) (omega arith);
+      rest = ap (drop 8388608) c.put_half.ensures ∙ drop-set-lt 8388608 ws (a / 2) (with_half (get_or ws (a / 2) 0) a v) (omega arith);
     }

@@ -8,13 +8,13 @@ loop-done-init g c = value_none (g.M.Memory.bytes c.args.memory.now) _
 pub overflow-mul-value : goal.overflow-mul-value
 overflow-mul-value g c =
     let m = c.args.memory.now in
-    record { fits = omega (arith, value_small (g.M.Memory.bytes m) (g.M.Memory.sound m) (c.args.at + (c.args.bytes-per-pixel - c.loop-done.done)) c.loop-done.done (omega arith)) }
+    record { fits = omega (arith, value_small (g.M.Memory.bytes m) (g.M.Memory.sound m) (c.args.at + (c.args.bytes_per_pixel - c.loop-done.done)) c.loop-done.done (omega arith)) }
 
 pub overflow-add-value : goal.overflow-add-value
 overflow-add-value g c =
     let m = c.args.memory.now in
-    record { fits = omega (arith, value_small (g.M.Memory.bytes m) (g.M.Memory.sound m) (c.args.at + (c.args.bytes-per-pixel - c.loop-done.done)) c.loop-done.done (omega arith)) }
+    record { fits = omega (arith, value_small (g.M.Memory.bytes m) (g.M.Memory.sound m) (c.args.at + (c.args.bytes_per_pixel - c.loop-done.done)) c.loop-done.done (omega arith)) }
 
 pub loop-done-preserved : goal.loop-done-preserved
 loop-done-preserved g c =
-    value_again (g.M.Memory.bytes c.args.memory.now) c.args.at c.args.bytes-per-pixel c.loop-done.done c.loop-done.value c.byte-at.result c.loop-done-test.true c.loop-done.invariant c.byte-at.ensures
+    value_again (g.M.Memory.bytes c.args.memory.now) c.args.at c.args.bytes_per_pixel c.loop-done.done c.loop-done.value c.byte_at.result c.loop-done-test.true c.loop-done.invariant c.byte_at.ensures

@@ -3,4 +3,4 @@ use Rattle.window.specs.Values.{value_at}
 use Rattle.window.proofs.pixels.read_value.Given as goal
 
 abbrev pub invariant-loop-done : goal.invariant-loop-done
-invariant-loop-done g l = l.value ≡ value_at (g.M.Memory.bytes l.memory) (l.at + (l.bytes-per-pixel - l.done)) l.done
+invariant-loop-done g l = l.value ≡ value_at (g.M.Memory.bytes l.memory) (l.at + (l.bytes_per_pixel - l.done)) l.done

@@ -6,7 +6,7 @@ use Rattle.bench_lines.proofs.command.Command.parse.Goals as goal
 
 pub returns : goal.returns
 returns c =
-    let is = c.parse-by-letter.ensures in
+    let is = c.parse_by_letter.ensures in
     record {
       meaning = is;
       spelling = λ k e. spelled_only c.args.line.now k (sym is ∙ e);

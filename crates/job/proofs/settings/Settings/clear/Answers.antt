@@ -11,23 +11,23 @@ returns-in-err-drawing c =
     let s = c.args.self.now in
     let o = c.in-Some.operation in
     let code = c.in-Some.ensures.code in
-    let p = passed s c.args.size o code c.first-kind.result c.in-Some.ensures.is c.if-not-depths-taken.ensures c.first-kind.ensures c.if-not-start-fits.ensures c.if-not-level-fits.ensures in
+    let p = passed s c.args.size o code c.first_kind.result c.in-Some.ensures.is c.if-not-depths_taken.ensures c.first_kind.ensures c.if-not-start_fits.ensures c.if-not-level_fits.ensures in
     let q = err_from_is_err_and c.from-residual.result c.from-residual.ensures.1 in
     ap plan_shown q.1 ∙ ap (λ x. Err (number_of x)) q.2
     ∙ outside s c.args.size o code p c.in-err-drawing.field-0.0 c.in-err-drawing.ensures
 
-pub returns-then-not-is-inside : goal.returns-then-not-is-inside
-returns-then-not-is-inside c =
+pub returns-then-not-is_inside : goal.returns-then-not-is_inside
+returns-then-not-is_inside c =
     let s = c.args.self.now in
     let o = c.in-Some.operation in
     let code = c.in-Some.ensures.code in
-    let p = passed s c.args.size o code c.first-kind.result c.in-Some.ensures.is c.if-not-depths-taken.ensures c.first-kind.ensures c.if-not-start-fits.ensures c.if-not-level-fits.ensures in
-    past s c.args.size o code p (plan_of c.in-ok-drawing.drawing) c.in-ok-drawing.ensures c.if-not-is-inside.ensures
+    let p = passed s c.args.size o code c.first_kind.result c.in-Some.ensures.is c.if-not-depths_taken.ensures c.first_kind.ensures c.if-not-start_fits.ensures c.if-not-level_fits.ensures in
+    past s c.args.size o code p (plan_of c.in-ok-drawing.drawing) c.in-ok-drawing.ensures c.if-not-is_inside.ensures
 
 pub returns : goal.returns
 returns c =
     let s = c.args.self.now in
     let o = c.in-Some.operation in
     let code = c.in-Some.ensures.code in
-    let p = passed s c.args.size o code c.first-kind.result c.in-Some.ensures.is c.if-not-depths-taken.ensures c.first-kind.ensures c.if-not-start-fits.ensures c.if-not-level-fits.ensures in
-    clear s c.args.size o code p (plan_of c.in-ok-drawing.drawing) c.in-ok-drawing.ensures c.if-not-is-inside.ensures
+    let p = passed s c.args.size o code c.first_kind.result c.in-Some.ensures.is c.if-not-depths_taken.ensures c.first_kind.ensures c.if-not-start_fits.ensures c.if-not-level_fits.ensures in
+    clear s c.args.size o code p (plan_of c.in-ok-drawing.drawing) c.in-ok-drawing.ensures c.if-not-is_inside.ensures

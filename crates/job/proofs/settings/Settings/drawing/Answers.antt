@@ -32,14 +32,14 @@ returns c =
     let s = c.args.self.now in
     let n = code_of c.args.operation in
     let a = area_at s.target s.width s.height in
-    let kind = c.first-kind.ensures in
+    let kind = c.first_kind.ensures in
     let used = c.uses_second.ensures in
-    let first = accepted (first_limited s c.first-kind.result) (first_at s c.first-kind.result) (origin_of c.in-ok-first.first) c.in-ok-first.ensures in
+    let first = accepted (first_limited s c.first_kind.result) (first_at s c.first_kind.result) (origin_of c.in-ok-first.first) c.in-ok-first.ensures in
     let second = accepted (second_limited s c.uses_second.result) (second_at s c.uses_second.result) (origin_of c.in-ok-second.second) c.in-ok-second.ensures in
     let target = accepted (limited a) a (area_of c.in-ok-target.target) c.in-ok-target.ensures in
     let all = and_all (first_limited s (first_kind n)) (second_limited s (uses_second n)) (limited a)
     (ap (first_limited s) (sym kind) ∙ first.0) (ap (second_limited s) (sym used) ∙ second.0) target.0 in
     let make : Rule → Origin → Origin → Depth → Area → Plan = λ r f g d t. record { rule = r; first = f; second = g; canvas = d; target = t } in
-    let plan : make c.rule-rule.result (origin_of c.in-ok-first.first) (origin_of c.in-ok-second.second) c.depth-of.result (area_of c.in-ok-target.target) ≡ plan_for s n =
-    cc (c.rule-rule.ensures, first.1 ∙ ap (first_at s) kind, second.1 ∙ ap (second_at s) used, c.depth-of.ensures, target.1) in
+    let plan : make c.rule-rule.result (origin_of c.in-ok-first.first) (origin_of c.in-ok-second.second) c.depth_of.result (area_of c.in-ok-target.target) ≡ plan_for s n =
+    cc (c.rule-rule.ensures, first.1 ∙ ap (first_at s) kind, second.1 ∙ ap (second_at s) used, c.depth_of.ensures, target.1) in
     ap Ok plan ∙ sym (ap (λ b. or_7 b (plan_for s n)) all)

@@ -8,5 +8,5 @@ returns c =
     let s = c.args.self.now in
     let long = length-take (held s) s.entries in
     let less : min 16 (c.len-n.result - 1) ≡ held s - 1 = omega arith in
-    ap (λ n. take n c.rotate-left.new.self) less ∙ ap (take (held s - 1)) c.rotate-left.ensures.after
+    ap (λ n. take n c.rotate_left.new.self) less ∙ ap (take (held s - 1)) c.rotate_left.ensures.after
     ∙ shifted s.entries (held s) (omega arith) (omega arith)

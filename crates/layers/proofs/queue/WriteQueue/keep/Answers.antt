@@ -7,8 +7,8 @@ use Rattle.layers.proofs.Lays.{length_laid}
 use Rattle.layers.proofs.Queues.{queued_past}
 use Rattle.layers.proofs.queue.WriteQueue.keep.Goals as goal
 
-pub returns-then-address-size-below : goal.returns-then-address-size-below
-returns-then-address-size-below g c =
+pub returns-then-address-size_below : goal.returns-then-address-size_below
+returns-then-address-size_below g c =
     let q = c.args.self.now in
     let m = g.M.Memory.bytes q.below in
     let a = c.args.address in

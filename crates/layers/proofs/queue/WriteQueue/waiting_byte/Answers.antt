@@ -5,8 +5,8 @@ use Rattle.layers.specs.Entries.{waiting}
 use Rattle.layers.proofs.Lays.{laid_last, laid_absent, length_laid}
 use Rattle.layers.proofs.queue.WriteQueue.waiting_byte.Goals as goal
 
-pub value-at-requires : goal.value-at-requires
-value-at-requires g c = c.in-Some.ensures.within
+pub value_at-requires : goal.value_at-requires
+value_at-requires g c = c.in-Some.ensures.within
 
 pub returns-in-Some : goal.returns-in-Some
 returns-in-Some g c =

@@ -4,14 +4,14 @@ use Rattle.window.proofs.Limits.{pixel_low}
 use Rattle.window.proofs.window.Window.address.Goals as goal
 
 pub overflow-mul-result : goal.overflow-mul-result
-overflow-mul-result c = record { fits = omega (arith, pixel_low c.args.self.now c.args.bytes-per-pixel c.args.k (omega arith) (omega arith)) }
+overflow-mul-result c = record { fits = omega (arith, pixel_low c.args.self.now c.args.bytes_per_pixel c.args.k (omega arith) (omega arith)) }
 
 pub overflow-add-result : goal.overflow-add-result
-overflow-add-result c = record { fits = omega (arith, pixel_low c.args.self.now c.args.bytes-per-pixel c.args.k (omega arith) (omega arith)) }
+overflow-add-result c = record { fits = omega (arith, pixel_low c.args.self.now c.args.bytes_per_pixel c.args.k (omega arith) (omega arith)) }
 
 pub returns : goal.returns
 unfolding place
 returns c = record {
   is = refl;
-  low = omega (arith, pixel_low c.args.self.now c.args.bytes-per-pixel c.args.k (omega arith) (omega arith));
+  low = omega (arith, pixel_low c.args.self.now c.args.bytes_per_pixel c.args.k (omega arith) (omega arith));
 }
