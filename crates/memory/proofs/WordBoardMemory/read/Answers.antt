@@ -14,5 +14,5 @@ returns c =
     let a = c.args.address in
     let long = words_length ws in
     let is = c.half_of.ensures ∙ ap (λ w. half w a) c.word_at.ensures in
-    let seen = view_at (min 16777216 (2 * length ws)) (in_words ws) a (omega arith) (rw is at c.half_of.type-inv) in
+    let seen = view_at (min 16777216 (2 * length ws)) (in_words ws) a (omega arith) (rw is at c.half_of.type_inv) in
     ap Ok (is ∙ sym seen) ∙ read_in (of_words ws) a (omega arith)

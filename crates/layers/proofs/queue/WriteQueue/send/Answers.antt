@@ -10,7 +10,7 @@ returns g c =
     let m = g.M.Memory.bytes q.below in
     let es = waiting q.pending in
     let oldest = laid_oldest m es c.requires in
-    let byte : c.value_at-value.result % 256 ≡ c.value_at-value.result = mod-eq_of_lt c.value_at-value.type-inv in
+    let byte : c.value_at-value.result % 256 ≡ c.value_at-value.result = mod-eq_of_lt c.value_at-value.type_inv in
     let is : state (g.M.Memory.bytes c.put.new.self) c.shift.new.self ≡ sent (state m q.pending) = cc in
     record {
       oldest = is;

@@ -16,7 +16,7 @@ returns-in-Some g c =
     let long = length_laid m es in
     let a = c.args.address in
     let seen = laid_last m es a c.in-Some.i c.in-Some.ensures (omega arith) in
-    let byte : c.value_at.result % 256 ≡ c.value_at.result = mod-eq_of_lt c.value_at.type-inv in
+    let byte : c.value_at.result % 256 ≡ c.value_at.result = mod-eq_of_lt c.value_at.type_inv in
     let found = read_in (laid m es) a (omega arith) in
     cc
 
