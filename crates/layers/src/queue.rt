@@ -43,13 +43,13 @@ impl<M: Memory> WriteQueue<M> {
 
     // What lies below an address, whatever waits for it.
     pub fn read_below(&self, address: u32) -> Result<u8, Refusal>
-        ensures { numbered result ≡ read_at (bytes self.now.below) address }
+        ensures { numbered result ≡ read_at (M.bytes self.now.below) address }
     {
         self.below.read(address)
     }
 
     fn is_drained(&self) -> bool
-        ensures none { T result → state (bytes self.now.below) self.now.pending ≡ drained (state (bytes self.now.below) self.now.pending) }
+        ensures none { T result → state (M.bytes self.now.below) self.now.pending ≡ drained (state (M.bytes self.now.below) self.now.pending) }
         ensures some { T (not result) → 0 < length (waiting self.now.pending) }
     {
         self.pending.len() == 0
@@ -58,8 +58,8 @@ impl<M: Memory> WriteQueue<M> {
     // Sends the oldest put below. It was within memory when it was kept, so it is taken.
     fn send(&mut self)
         requires { 0 < length (waiting self.old.pending) }
-        ensures oldest { state (bytes self.new.below) self.new.pending ≡ sent (state (bytes self.old.below) self.old.pending) }
-        ensures shown { laid (bytes self.new.below) (waiting self.new.pending) ≡ laid (bytes self.old.below) (waiting self.old.pending) }
+        ensures oldest { state (M.bytes self.new.below) self.new.pending ≡ sent (state (M.bytes self.old.below) self.old.pending) }
+        ensures shown { laid (M.bytes self.new.below) (waiting self.new.pending) ≡ laid (M.bytes self.old.below) (waiting self.old.pending) }
         ensures less { length (waiting self.new.pending) < length (waiting self.old.pending) }
     {
         let address = self.pending.address_at(0);
@@ -70,7 +70,7 @@ impl<M: Memory> WriteQueue<M> {
 
     // Sends all below.
     pub fn drain(&mut self)
-        ensures { state (bytes self.new.below) self.new.pending ≡ drained (state (bytes self.old.below) self.old.pending) }
+        ensures { state (M.bytes self.new.below) self.new.pending ≡ drained (state (M.bytes self.old.below) self.old.pending) }
     {
         while !self.is_drained() {
             self.send();
@@ -79,7 +79,7 @@ impl<M: Memory> WriteQueue<M> {
 
     // Sends all below and hands the memory below back.
     pub fn into_below(mut self) -> M
-        ensures { bytes result ≡ laid (bytes self.below) (waiting self.pending) }
+        ensures { M.bytes result ≡ laid (M.bytes self.below) (waiting self.pending) }
     {
         self.drain();
         let WriteQueue { below, pending: _ } = self;
@@ -88,15 +88,15 @@ impl<M: Memory> WriteQueue<M> {
 
     // What waits adds no address.
     fn size_below(&self) -> u32
-        ensures { result ≡ length (laid (bytes self.now.below) (waiting self.now.pending)) }
+        ensures { result ≡ length (laid (M.bytes self.now.below) (waiting self.now.pending)) }
     {
         self.below.size()
     }
 
     // The byte that waits for an address, and else what lies below counts.
     fn waiting_byte(&self, address: u32) -> Option<u8>
-        requires { address < length (laid (bytes self.now.below) (waiting self.now.pending)) }
-        ensures { MatchOption result (read_at (laid (bytes self.now.below) (waiting self.now.pending)) address ≡ read_at (bytes self.now.below) address) (λ v. read_at (laid (bytes self.now.below) (waiting self.now.pending)) address ≡ Ok v) }
+        requires { address < length (laid (M.bytes self.now.below) (waiting self.now.pending)) }
+        ensures { MatchOption result (read_at (laid (M.bytes self.now.below) (waiting self.now.pending)) address ≡ read_at (M.bytes self.now.below) address) (λ v. read_at (laid (M.bytes self.now.below) (waiting self.now.pending)) address ≡ Ok v) }
     {
         match self.pending.place(address) {
             Some(i) => Some(self.pending.value_at(i)),
@@ -106,10 +106,10 @@ impl<M: Memory> WriteQueue<M> {
 
     // Gives an address that waits at a place another value, where it stands.
     fn change(&mut self, place: usize, address: u32, value: u8)
-        requires within { address < length (laid (bytes self.old.below) (waiting self.old.pending)) }
+        requires within { address < length (laid (M.bytes self.old.below) (waiting self.old.pending)) }
         requires there { Last (waiting self.old.pending) address place }
-        ensures after { laid (bytes self.new.below) (waiting self.new.pending) ≡ slice_set (laid (bytes self.old.below) (waiting self.old.pending)) address value }
-        ensures kept { state (bytes self.new.below) self.new.pending ≡ queued (state (bytes self.old.below) self.old.pending) address value }
+        ensures after { laid (M.bytes self.new.below) (waiting self.new.pending) ≡ slice_set (laid (M.bytes self.old.below) (waiting self.old.pending)) address value }
+        ensures kept { state (M.bytes self.new.below) self.new.pending ≡ queued (state (M.bytes self.old.below) self.old.pending) address value }
         ensures once { Once (waiting self.old.pending) → Once (waiting self.new.pending) }
     {
         self.pending.change(place, address, value);
@@ -117,10 +117,10 @@ impl<M: Memory> WriteQueue<M> {
 
     // Keeps a put to an address that does not wait. Where 16 wait, the oldest goes below first.
     fn append(&mut self, address: u32, value: u8)
-        requires within { address < length (laid (bytes self.old.below) (waiting self.old.pending)) }
+        requires within { address < length (laid (M.bytes self.old.below) (waiting self.old.pending)) }
         requires absent { Absent (waiting self.old.pending) address }
-        ensures after { laid (bytes self.new.below) (waiting self.new.pending) ≡ slice_set (laid (bytes self.old.below) (waiting self.old.pending)) address value }
-        ensures kept { state (bytes self.new.below) self.new.pending ≡ queued (state (bytes self.old.below) self.old.pending) address value }
+        ensures after { laid (M.bytes self.new.below) (waiting self.new.pending) ≡ slice_set (laid (M.bytes self.old.below) (waiting self.old.pending)) address value }
+        ensures kept { state (M.bytes self.new.below) self.new.pending ≡ queued (state (M.bytes self.old.below) self.old.pending) address value }
         ensures once { Once (waiting self.old.pending) → Once (waiting self.new.pending) }
     {
         if self.pending.len() == 16 {
@@ -131,8 +131,8 @@ impl<M: Memory> WriteQueue<M> {
 
     // Keeps a put, and past the end nothing.
     fn keep(&mut self, address: u32, value: u8)
-        ensures after { laid (bytes self.new.below) (waiting self.new.pending) ≡ slice_set (laid (bytes self.old.below) (waiting self.old.pending)) address value }
-        ensures kept { state (bytes self.new.below) self.new.pending ≡ queued (state (bytes self.old.below) self.old.pending) address value }
+        ensures after { laid (M.bytes self.new.below) (waiting self.new.pending) ≡ slice_set (laid (M.bytes self.old.below) (waiting self.old.pending)) address value }
+        ensures kept { state (M.bytes self.new.below) self.new.pending ≡ queued (state (M.bytes self.old.below) self.old.pending) address value }
         ensures once { Once (waiting self.old.pending) → Once (waiting self.new.pending) }
     {
         if address >= self.size_below() {

@@ -53,17 +53,17 @@ impl<M: Memory> Stretch<M> {
 
     // Where an address of the stretch lies below.
     fn place(&self, address: u32) -> u32
-        requires { address < length (part (bytes self.now.below) self.now.start self.now.length) }
+        requires { address < length (part (M.bytes self.now.below) self.now.start self.now.length) }
         ensures place { result ≡ self.now.start + address }
-        ensures reads { read_at (bytes self.now.below) result ≡ read_at (part (bytes self.now.below) self.now.start self.now.length) address }
+        ensures reads { read_at (M.bytes self.now.below) result ≡ read_at (part (M.bytes self.now.below) self.now.start self.now.length) address }
     {
         self.start + address
     }
 
     // Past the end of the stretch nothing is written.
     fn write(&mut self, address: u32, value: u8)
-        ensures after { part (bytes self.new.below) self.new.start self.new.length ≡ slice_set (part (bytes self.old.below) self.old.start self.old.length) address value }
-        ensures under { bytes self.new.below ≡ put_under (bytes self.old.below) self.old.start self.old.length address value }
+        ensures after { part (M.bytes self.new.below) self.new.start self.new.length ≡ slice_set (part (M.bytes self.old.below) self.old.start self.old.length) address value }
+        ensures under { M.bytes self.new.below ≡ put_under (M.bytes self.old.below) self.old.start self.old.length address value }
         ensures start { self.new.start ≡ self.old.start }
         ensures length { self.new.length ≡ self.old.length }
     {

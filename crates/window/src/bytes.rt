@@ -5,7 +5,7 @@ use memory::Memory;
 
 // The byte at an address, or 0 where there is none.
 pub fn byte_at<M: Memory>(memory: &M, address: u64) -> u8
-    ensures { result ≡ slice_index (bytes memory.now) address }
+    ensures { result ≡ slice_index (M.bytes memory.now) address }
 {
     if address < memory.size() as u64 {
         memory.read(address as u32).unwrap_or(0)
@@ -16,7 +16,7 @@ pub fn byte_at<M: Memory>(memory: &M, address: u64) -> u8
 
 // Puts a byte; past memory there is nothing to change.
 pub fn put_byte<M: Memory>(memory: &mut M, address: u64, byte: u8)
-    ensures { bytes memory.new ≡ slice_set (bytes memory.old) address byte }
+    ensures { M.bytes memory.new ≡ slice_set (M.bytes memory.old) address byte }
 {
     if address < memory.size() as u64 {
         let _ = memory.put(address as u32, byte);

@@ -107,7 +107,7 @@ impl Window {
 // The number that some bytes hold, low byte first.
 fn read_value<M: Memory>(memory: &M, at: u64, bytes_per_pixel: u8) -> u32
     requires { (at < 2 ^ 60) × (bytes_per_pixel ≤ 4) }
-    ensures { result ≡ value_at (bytes memory.now) at bytes_per_pixel }
+    ensures { result ≡ value_at (M.bytes memory.now) at bytes_per_pixel }
 {
     let mut value = 0;
     for done in 0..bytes_per_pixel {
@@ -118,7 +118,7 @@ fn read_value<M: Memory>(memory: &M, at: u64, bytes_per_pixel: u8) -> u32
 
 fn write_value<M: Memory>(memory: &mut M, at: u64, bytes_per_pixel: u8, value: u32)
     requires { at < 2 ^ 60 }
-    ensures { bytes memory.new ≡ stored (bytes memory.old) at bytes_per_pixel value }
+    ensures { M.bytes memory.new ≡ stored (M.bytes memory.old) at bytes_per_pixel value }
 {
     let mut rest = value;
     for i in 0..bytes_per_pixel {
@@ -147,14 +147,14 @@ impl PixelSize {
 impl Window {
     // The value of pixel k.
     pub fn load<M: Memory>(&self, size: PixelSize, memory: &M, k: u32) -> u32
-        ensures { result ≡ value_at (bytes memory.now) (place (area_of self.now) size.bytes k) size.bytes }
+        ensures { result ≡ value_at (M.bytes memory.now) (place (area_of self.now) size.bytes k) size.bytes }
     {
         read_value(memory, self.address(size.bytes, k), size.bytes)
     }
 
     // Stores a value as pixel k.
     pub fn store<M: Memory>(&self, size: PixelSize, memory: &mut M, k: u32, value: u32)
-        ensures { bytes memory.new ≡ stored (bytes memory.old) (place (area_of self.now) size.bytes k) size.bytes value }
+        ensures { M.bytes memory.new ≡ stored (M.bytes memory.old) (place (area_of self.now) size.bytes k) size.bytes value }
     {
         write_value(memory, self.address(size.bytes, k), size.bytes, value);
     }

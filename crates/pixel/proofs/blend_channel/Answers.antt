@@ -6,11 +6,11 @@ use Rattle.pixel.proofs.blend_channel.Goals as goal
 most : (c : goal.After-min-weight) → weighted c.min-weight.result c.args.first c.args.second ≤ 255 * 32
 most c = weighted_high c.min-weight.result c.args.first c.args.second 255 (omega arith) (omega arith) (omega arith)
 
-pub overflow-add-result : goal.overflow-add-result
-overflow-add-result c = let h = most c in record { fits = omega arith }
+pub overflow_add-result : goal.overflow_add-result
+overflow_add-result c = let h = most c in record { fits = omega arith }
 
-pub overflow-cast-result-3 : goal.overflow-cast-result-3
-overflow-cast-result-3 c = let h = most c in record { fits = omega arith }
+pub overflow_cast-result-3 : goal.overflow_cast-result-3
+overflow_cast-result-3 c = let h = most c in record { fits = omega arith }
 
 pub returns : goal.returns
 unfolding blend_channel

@@ -12,12 +12,12 @@ loop-i-init c =
     let whole : n - 0 ≡ n = omega arith in
     (refl, prefixed_none (from l 0 n) ∙ ap (bytes_at l 2) whole)
 
-pub returns-in-err-bytes : goal.returns-in-err-bytes
-returns-in-err-bytes c =
+pub returns-in_err-bytes : goal.returns-in_err-bytes
+returns-in_err-bytes c =
     let l = c.args.line.now in
     let n = (length l - 2) / 2 in
     let shaped = burst_shaped l (omega arith) (omega arith) (omega arith) (sym c.if-not-is_space.ensures) in
-    let none = from_none l c.loop-i.bytes c.loop-i.i n c.loop-i-test.true (sym c.in-err-bytes.ensures) in
+    let none = from_none l c.loop-i.bytes c.loop-i.i n c.loop-i-test.true (sym c.in_err-bytes.ensures) in
     ap meant c.from-residual.ensures ∙ sym (shaped ∙ ap as_burst (sym c.loop-i.invariant.1 ∙ none))
 
 pub loop-i-preserved : goal.loop-i-preserved
@@ -26,9 +26,9 @@ loop-i-preserved c =
     let n = (length l - 2) / 2 in
     let bs = c.loop-i.bytes in
     let i = c.loop-i.i in
-    let b = c.in-ok-bytes.field-0 in
+    let b = c.in_ok-bytes.field-0 in
     let long = c.loop-i.invariant.0 in
-    (length-set bs i b ∙ long, from_some l bs i n b c.loop-i-test.true (omega arith) (sym c.in-ok-bytes.ensures) ∙ c.loop-i.invariant.1)
+    (length-set bs i b ∙ long, from_some l bs i n b c.loop-i-test.true (omega arith) (sym c.in_ok-bytes.ensures) ∙ c.loop-i.invariant.1)
 
 pub returns : goal.returns
 returns c =

@@ -5,13 +5,13 @@ use Rattle.window.proofs.pixels.read_value.Goals as goal
 pub loop-done-init : goal.loop-done-init
 loop-done-init g c = value_none (g.M.Memory.bytes c.args.memory.now) _
 
-pub overflow-mul-value : goal.overflow-mul-value
-overflow-mul-value g c =
+pub overflow_mul-value : goal.overflow_mul-value
+overflow_mul-value g c =
     let m = c.args.memory.now in
     record { fits = omega (arith, value_small (g.M.Memory.bytes m) (g.M.Memory.sound m) (c.args.at + (c.args.bytes_per_pixel - c.loop-done.done)) c.loop-done.done (omega arith)) }
 
-pub overflow-add-value : goal.overflow-add-value
-overflow-add-value g c =
+pub overflow_add-value : goal.overflow_add-value
+overflow_add-value g c =
     let m = c.args.memory.now in
     record { fits = omega (arith, value_small (g.M.Memory.bytes m) (g.M.Memory.sound m) (c.args.at + (c.args.bytes_per_pixel - c.loop-done.done)) c.loop-done.done (omega arith)) }
 
