@@ -8,6 +8,9 @@ use Rattle.colour.specs.Channels.{Channels, both}
 use Rattle.colour.specs.Formats.{Narrows}
 use Rattle.colour.proofs.Fields.{narrowed_widened, and_fields}
 use Rattle.formats.specs.Packed.{colour332, narrow332, format332, colour565, narrow565, format565, colour888, narrow888, format888}
+use Rattle.formats.specs.Depths.{depth_format, depth_narrow}
+use Rattle.formats.specs.declared.Depth.{Depth}
+use Rattle.formats.specs.declared.Depth.TheVariants.{Rgb332, Rgb565, Rgb888}
 
 and332 : (c d : Colour) → Channels c → Channels d → narrow332 (both c d) ≡ bit_and (narrow332 c) (narrow332 d)
 and332 c d h k =
@@ -77,3 +80,9 @@ narrows888 = record {
   complements = λ c h. omega (arith, h.red, h.green, h.blue);
   ands = and888;
 }
+
+-- the laws of the depth that is chosen while the program runs
+pub depth_keeps : (d : Depth) → Narrows (depth_format d) (depth_narrow d)
+depth_keeps Rgb332 = narrows332
+depth_keeps Rgb565 = narrows565
+depth_keeps Rgb888 = narrows888

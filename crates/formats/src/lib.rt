@@ -2,7 +2,7 @@
 ghost use Rattle.std.specs.Prelude.{◌≡◌, ℕ, ◌+◌, ◌-◌, ◌*◌, ◌/◌, ◌%◌, ◌^◌, ◌<◌, ◌≤◌};
 ghost use Rattle.formats.specs.Packed.{format332, narrow332, format565, narrow565, format888, narrow888};
 ghost use Rattle.formats.specs.Depths.{depth_format, depth_narrow};
-ghost use Rattle.formats.specs.Laws.{narrows332, narrows565, narrows888};
+ghost use Rattle.formats.specs.Laws.{narrows332, narrows565, narrows888, depth_keeps};
 
 mod overlays;
 mod tables;
@@ -130,6 +130,8 @@ impl Readable for Depth {
 
 impl Canvas for Depth {
     ghost narrowed = { depth_narrow };
+
+    ghost keeps = { depth_keeps };
 
     fn narrow(&self, colour: Colour) -> u32 {
         match self {

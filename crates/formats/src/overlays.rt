@@ -2,7 +2,7 @@
 ghost use Rattle.std.specs.Prelude.{◌≡◌, ℕ, ◌+◌, ◌-◌, ◌*◌, ◌/◌, ◌%◌, ◌^◌, ◌<◌, ◌≤◌};
 ghost use Rattle.formats.specs.Overlays.{index_entry, format26, level26, format4444, level4444};
 ghost use Rattle.formats.specs.OverlayKinds.{overlay_format, overlay_level};
-ghost use Rattle.formats.specs.Levels.{index_bounded, bounded4444};
+ghost use Rattle.formats.specs.Levels.{index_bounded, bounded4444, overlay_bounded};
 
 use crate::tables::{field_level, index_level};
 use colour::{Colour, Overlay, Palette, Readable, colour_of_entry};
@@ -95,6 +95,8 @@ impl Readable for OverlayKind {
 
 impl Overlay for OverlayKind {
     ghost levels = { overlay_level };
+
+    ghost bounded = { overlay_bounded };
 
     fn level(&self, value: u32) -> u8 {
         match self {

@@ -10,7 +10,7 @@ pub loop-i-init : goal.loop-i-init
 loop-i-init g c = going_none (seen g.M.Memory.bytes c.args.panel.now) c.args.input.now (vec_items c.args.out.now)
 
 pub returns-in_err-write_to : goal.returns-in_err-write_to
-returns-in_err-write_to g c = IfOk-from_err c.from-residual.result _ c.from-residual.ensures.0
+returns-in_err-write_to g c = IfOk-from_err c.from_residual.result _ c.from_residual.ensures.0
 
 pub loop-i-preserved : goal.loop-i-preserved
 loop-i-preserved g c =

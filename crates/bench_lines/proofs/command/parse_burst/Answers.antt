@@ -18,7 +18,7 @@ returns-in_err-bytes c =
     let n = (length l - 2) / 2 in
     let shaped = burst_shaped l (omega arith) (omega arith) (omega arith) (sym c.if-not-is_space.ensures) in
     let none = from_none l c.loop-i.bytes c.loop-i.i n c.loop-i-test.true (sym c.in_err-bytes.ensures) in
-    ap meant c.from-residual.ensures ∙ sym (shaped ∙ ap as_burst (sym c.loop-i.invariant.1 ∙ none))
+    ap meant c.from_residual.ensures ∙ sym (shaped ∙ ap as_burst (sym c.loop-i.invariant.1 ∙ none))
 
 pub loop-i-preserved : goal.loop-i-preserved
 loop-i-preserved c =

@@ -2,8 +2,8 @@ use Rattle.std.proofs.Common.{◌≡◌, false, eqb, get_or, arith}
 use Rattle.std.proofs.lemmas.Bool.{ne_eqb}
 use Rattle.bench_lines.proofs.command.parse_by_letter.Goals as goal
 
-pub returns-in-default : goal.returns-in-default
-returns-in-default c =
+pub returns-in_default : goal.returns-in_default
+returns-in_default c =
     let l = c.args.line.now in
     let x = get_or l 0 0 in
     let w : eqb x 87 ≡ false = ne_eqb x 87 (λ e. omega arith) in

@@ -17,7 +17,7 @@ returns-in-Some g c =
     ∙ left (op_of g.R.PixelRule.yields g.D.Readable.format g.D.Canvas.narrowed c.args.self.now) c.args.palette.now c.args.sent c.args.k
     (g.M.Memory.bytes c.args.memory.now) (Some c.in-Some.colour) c.in-Some.ensures
 
-pub returns-in-default : goal.returns-in-default
-returns-in-default g c =
+pub returns-in_default : goal.returns-in_default
+returns-in_default g c =
     left (op_of g.R.PixelRule.yields g.D.Readable.format g.D.Canvas.narrowed c.args.self.now) c.args.palette.now c.args.sent c.args.k
-    (g.M.Memory.bytes c.args.memory.now) _ c.in-default.ensures
+    (g.M.Memory.bytes c.args.memory.now) _ c.in_default.ensures

@@ -12,7 +12,7 @@ returns-in_err-drawing c =
     let o = c.in-Some.operation in
     let code = c.in-Some.ensures.code in
     let p = passed s c.args.size o code c.first_kind.result c.in-Some.ensures.is c.if-not-depths_taken.ensures c.first_kind.ensures c.if-not-start_fits.ensures c.if-not-level_fits.ensures in
-    let q = err_from_is_err_and c.from-residual.result c.from-residual.ensures.1 in
+    let q = err_from_is_err_and c.from_residual.result c.from_residual.ensures.1 in
     ap plan_shown q.1 ∙ ap (λ x. Err (number_of x)) q.2
     ∙ outside s c.args.size o code p c.in_err-drawing.field-0.0 c.in_err-drawing.ensures
 

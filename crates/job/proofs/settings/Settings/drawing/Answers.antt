@@ -16,16 +16,16 @@ returns-in_err-second c =
     let n = code_of c.args.operation in
     let t = limited (area_at s.target s.width s.height) in
     let used = c.uses_second.ensures in
-    broke plan_shown (λ e. refl) (second_limited s c.uses_second.result) (all_limited s n) (second_at s c.uses_second.result) (plan_for s n) c.in_err-second.field-0.0 c.from-residual-in_err-second.result
-    c.in_err-second.ensures (λ f. and_second (first_limited s (first_kind n)) (second_limited s (uses_second n)) t (ap (second_limited s) (sym used) ∙ f)) c.from-residual-in_err-second.ensures.1
+    broke plan_shown (λ e. refl) (second_limited s c.uses_second.result) (all_limited s n) (second_at s c.uses_second.result) (plan_for s n) c.in_err-second.field-0.0 c.from_residual-in_err-second.result
+    c.in_err-second.ensures (λ f. and_second (first_limited s (first_kind n)) (second_limited s (uses_second n)) t (ap (second_limited s) (sym used) ∙ f)) c.from_residual-in_err-second.ensures.1
 
 pub returns-in_err-target : goal.returns-in_err-target
 returns-in_err-target c =
     let s = c.args.self.now in
     let n = code_of c.args.operation in
     let a = area_at s.target s.width s.height in
-    broke plan_shown (λ e. refl) (limited a) (all_limited s n) a (plan_for s n) c.in_err-target.field-0.0 c.from-residual-in_err-target.result
-    c.in_err-target.ensures (and_third (first_limited s (first_kind n)) (second_limited s (uses_second n)) (limited a)) c.from-residual-in_err-target.ensures.1
+    broke plan_shown (λ e. refl) (limited a) (all_limited s n) a (plan_for s n) c.in_err-target.field-0.0 c.from_residual-in_err-target.result
+    c.in_err-target.ensures (and_third (first_limited s (first_kind n)) (second_limited s (uses_second n)) (limited a)) c.from_residual-in_err-target.ensures.1
 
 pub returns : goal.returns
 returns c =

@@ -3,8 +3,8 @@ use lib.Seq.{take-set-lt}
 use Rattle.layers.specs.Entries.{entry, held}
 use Rattle.layers.proofs.pending.Pending.change.Goals as goal
 
-pub offset-bounds-self-i : goal.offset-bounds-self-i
-offset-bounds-self-i c = let s = c.args.self.now in record { fits = omega (arith, length-take (held s) s.entries) }
+pub offset_bounds-self-i : goal.offset_bounds-self-i
+offset_bounds-self-i c = let s = c.args.self.now in record { fits = omega (arith, length-take (held s) s.entries) }
 
 pub returns : goal.returns
 returns c =

@@ -2,8 +2,8 @@ use Rattle.std.proofs.Common.{sym, ap, arith, length-take, get_or-take}
 use Rattle.layers.specs.Entries.{none, held}
 use Rattle.layers.proofs.pending.Pending.value_at.Goals as goal
 
-pub offset-bounds-self-i : goal.offset-bounds-self-i
-offset-bounds-self-i c = let s = c.args.self.now in record { fits = omega (arith, length-take (held s) s.entries) }
+pub offset_bounds-self-i : goal.offset_bounds-self-i
+offset_bounds-self-i c = let s = c.args.self.now in record { fits = omega (arith, length-take (held s) s.entries) }
 
 pub returns : goal.returns
 returns c =
