@@ -42,8 +42,8 @@ fn byte(res: Result<u8, Refusal>) -> Answer
 
 // Makes the call that a command is. A burst is not built yet, and its line counts as malformed.
 fn perform<M: Memory>(panel: &mut Panel<M>, command: Command) -> Answer
-    ensures answer { reply_of result ≡ call_reply (seen bytes panel.old) (call_of command) }
-    ensures after { seen bytes panel.new ≡ call_after (seen bytes panel.old) (call_of command) }
+    ensures answer { reply_of result ≡ call_reply (seen M.bytes panel.old) (call_of command) }
+    ensures after { seen M.bytes panel.new ≡ call_after (seen M.bytes panel.old) (call_of command) }
 {
     match command {
         Command::Write { register, value } => done(panel.write(register, value)),
@@ -58,8 +58,8 @@ fn perform<M: Memory>(panel: &mut Panel<M>, command: Command) -> Answer
 
 // Obeys one line, without its line feed.
 pub fn respond<M: Memory>(panel: &mut Panel<M>, line: &[u8]) -> Answer
-    ensures answer { reply_of result ≡ line_reply (seen bytes panel.old) (command_of line.now) }
-    ensures after { seen bytes panel.new ≡ line_after (seen bytes panel.old) (command_of line.now) }
+    ensures answer { reply_of result ≡ line_reply (seen M.bytes panel.old) (command_of line.now) }
+    ensures after { seen M.bytes panel.new ≡ line_after (seen M.bytes panel.old) (command_of line.now) }
 {
     match Command::parse(line) {
         Some(command) => perform(panel, command),
@@ -73,7 +73,7 @@ pub fn replay<M: Memory>(
     input: &[u8],
     out: &mut Vec<u8>,
 ) -> Result<(), AllocError>
-    ensures { OnOk result (Replayed (seen bytes panel.old) (lines input.now) out.old.items (seen bytes panel.new) out.new.items) }
+    ensures { OnOk result (Replayed (seen M.bytes panel.old) (lines input.now) out.old.items (seen M.bytes panel.new) out.new.items) }
 {
     let mut start = 0;
     for i in 0..input.len() {

@@ -14,7 +14,7 @@ use window::PixelSize;
 impl<R: PixelRule, D: Canvas> Drawing<R, D> {
     // What the rule yields for pixel k, where the host sent a number.
     fn yielded<M: Memory>(&self, palette: &Palette, memory: &M, sent: u32, k: u32) -> Option<Colour>
-        ensures { result ≡ yielded (op_of R.PixelRule.yields D.Readable.format D.Canvas.narrowed self.now) palette.now sent k (bytes memory.now) }
+        ensures { result ≡ yielded (op_of R.PixelRule.yields D.Readable.format D.Canvas.narrowed self.now) palette.now sent k (M.bytes memory.now) }
     {
         let first = self.first.value(memory, sent, k);
         let second = self.second.value(memory, sent, k);
@@ -23,7 +23,7 @@ impl<R: PixelRule, D: Canvas> Drawing<R, D> {
 
     // Stores a colour as pixel k.
     fn put<M: Memory>(&self, memory: &mut M, k: u32, colour: Colour)
-        ensures { bytes memory.new ≡ stored (bytes memory.old) (place (area_of self.now.target) (D.Readable.format self.now.canvas).width k) (D.Readable.format self.now.canvas).width (D.Canvas.narrowed self.now.canvas colour) }
+        ensures { M.bytes memory.new ≡ stored (M.bytes memory.old) (place (area_of self.now.target) (D.Readable.format self.now.canvas).width k) (D.Readable.format self.now.canvas).width (D.Canvas.narrowed self.now.canvas colour) }
     {
         let size = PixelSize::of(&self.canvas);
         self.target
@@ -32,7 +32,7 @@ impl<R: PixelRule, D: Canvas> Drawing<R, D> {
 
     // Draws pixel k, where the host sent a number.
     fn plot<M: Memory>(&self, palette: &Palette, memory: &mut M, sent: u32, k: u32)
-        ensures { bytes memory.new ≡ plotted (op_of R.PixelRule.yields D.Readable.format D.Canvas.narrowed self.now) palette.now sent k (bytes memory.old) }
+        ensures { M.bytes memory.new ≡ plotted (op_of R.PixelRule.yields D.Readable.format D.Canvas.narrowed self.now) palette.now sent k (M.bytes memory.old) }
     {
         if let Some(colour) = self.yielded(palette, memory, sent, k) {
             self.put(memory, k, colour);
@@ -56,9 +56,9 @@ impl<R: PixelRule, D: Canvas> Drawing<R, D> {
         allowance: u32,
     ) -> u32
         ensures count { result ≡ min allowance (pixels (area_of self.now.target) - first) }
-        ensures after { bytes memory.new ≡ painted (plotted (op_of R.PixelRule.yields D.Readable.format D.Canvas.narrowed self.now) palette.now sent) first result (bytes memory.old) }
-        ensures holds { PixelsHold (op_of R.PixelRule.yields D.Readable.format D.Canvas.narrowed self.now) palette.now sent first result (bytes memory.old) (bytes memory.new) }
-        ensures only { OnlyPixels (op_of R.PixelRule.yields D.Readable.format D.Canvas.narrowed self.now) first result (bytes memory.old) (bytes memory.new) }
+        ensures after { M.bytes memory.new ≡ painted (plotted (op_of R.PixelRule.yields D.Readable.format D.Canvas.narrowed self.now) palette.now sent) first result (M.bytes memory.old) }
+        ensures holds { PixelsHold (op_of R.PixelRule.yields D.Readable.format D.Canvas.narrowed self.now) palette.now sent first result (M.bytes memory.old) (M.bytes memory.new) }
+        ensures only { OnlyPixels (op_of R.PixelRule.yields D.Readable.format D.Canvas.narrowed self.now) first result (M.bytes memory.old) (M.bytes memory.new) }
     {
         let count = self.allowed(first, allowance);
         for i in 0..count {

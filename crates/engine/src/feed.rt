@@ -54,7 +54,7 @@ impl<R: PixelRule, D: Canvas> Drawing<R, D> {
         progress: &mut Progress,
         byte: u8,
     )
-        ensures { stage (bytes memory.new) progress.new ≡ come (op_of R.PixelRule.yields D.Readable.format D.Canvas.narrowed self.now) palette.now (stage (bytes memory.old) progress.old) (waits progress.old.waiting ++ byte ∷ []) }
+        ensures { stage (M.bytes memory.new) progress.new ≡ come (op_of R.PixelRule.yields D.Readable.format D.Canvas.narrowed self.now) palette.now (stage (M.bytes memory.old) progress.old) (waits progress.old.waiting ++ byte ∷ []) }
     {
         match progress.waiting.and(byte, self.first.awaited()) {
             Some(waiting) => progress.waiting = waiting,
@@ -77,8 +77,8 @@ impl<R: PixelRule, D: Canvas> Drawing<R, D> {
         progress: &mut Progress,
         sent: &[u8],
     ) -> (usize, u32)
-        ensures feeds { Feed (op_of R.PixelRule.yields D.Readable.format D.Canvas.narrowed self.now) palette.now (stage (bytes memory.old) progress.old) sent.now (stage (bytes memory.new) progress.new) result.0 result.1 }
-        ensures only { OnlyPixels (op_of R.PixelRule.yields D.Readable.format D.Canvas.narrowed self.now) progress.old.drawn result.1 (bytes memory.old) (bytes memory.new) }
+        ensures feeds { Feed (op_of R.PixelRule.yields D.Readable.format D.Canvas.narrowed self.now) palette.now (stage (M.bytes memory.old) progress.old) sent.now (stage (M.bytes memory.new) progress.new) result.0 result.1 }
+        ensures only { OnlyPixels (op_of R.PixelRule.yields D.Readable.format D.Canvas.narrowed self.now) progress.old.drawn result.1 (M.bytes memory.old) (M.bytes memory.new) }
         ensures parts { FeedsInParts (op_of R.PixelRule.yields D.Readable.format D.Canvas.narrowed self.now) palette.now }
     {
         let before = progress.drawn;

@@ -22,7 +22,7 @@ impl Draft {
 
     // Tests the draft against a memory; a declined one comes back unchanged.
     pub fn clear<M: Memory>(self, memory: &M) -> Result<Cleared, Declined>
-        ensures answer { clearing_of result ≡ clearing self.settings (length (bytes memory.now)) }
+        ensures answer { clearing_of result ≡ clearing self.settings (length (M.bytes memory.now)) }
         ensures inside { AcceptedInside result }
     {
         let size = memory.size();
@@ -106,10 +106,10 @@ impl Begun {
         palette: &Palette,
         sent: &[u8],
     ) -> Result<(usize, u32), Refusal>
-        ensures answer { numbered result ≡ feed_answer (work_of self.old) palette.now (bytes memory.old) sent.now }
-        ensures memory { bytes memory.new ≡ (feed_after (work_of self.old) palette.now (bytes memory.old) sent.now).memory }
-        ensures job { work_of self.new ≡ at_stage (work_of self.old) (feed_after (work_of self.old) palette.now (bytes memory.old) sent.now) }
-        ensures only { FedOnly (work_of self.old) (numbered result) (bytes memory.old) (bytes memory.new) }
+        ensures answer { numbered result ≡ feed_answer (work_of self.old) palette.now (M.bytes memory.old) sent.now }
+        ensures memory { M.bytes memory.new ≡ (feed_after (work_of self.old) palette.now (M.bytes memory.old) sent.now).memory }
+        ensures job { work_of self.new ≡ at_stage (work_of self.old) (feed_after (work_of self.old) palette.now (M.bytes memory.old) sent.now) }
+        ensures only { FedOnly (work_of self.old) (numbered result) (M.bytes memory.old) (M.bytes memory.new) }
     {
         if memory.size() < self.size {
             return Err(Refusal::PastMemory);
@@ -122,10 +122,10 @@ impl Begun {
 
     // Draws the next pixels over a memory that is large enough.
     fn draw<M: Memory>(&self, memory: &mut M, palette: &Palette, allowance: u32) -> u32
-        requires { self.now.size ≤ length (bytes memory.old) }
+        requires { self.now.size ≤ length (M.bytes memory.old) }
         ensures count { result ≡ min allowance (left (work_of self.now)) }
-        ensures after { bytes memory.new ≡ painted (plotted (op_at (work_of self.now).plan) palette.now 0) (work_of self.now).drawn result (bytes memory.old) }
-        ensures pixels { Ran (work_of self.now) palette.now (Ok result) (bytes memory.old) (bytes memory.new) }
+        ensures after { M.bytes memory.new ≡ painted (plotted (op_at (work_of self.now).plan) palette.now 0) (work_of self.now).drawn result (M.bytes memory.old) }
+        ensures pixels { Ran (work_of self.now) palette.now (Ok result) (M.bytes memory.old) (M.bytes memory.new) }
     {
         self.drawing
             .draw(palette, memory, 0, self.progress.drawn, allowance)
@@ -138,10 +138,10 @@ impl Begun {
         palette: &Palette,
         allowance: u32,
     ) -> Result<u32, Refusal>
-        ensures answer { numbered result ≡ run_answer (work_of self.old) (bytes memory.old) allowance }
-        ensures memory { bytes memory.new ≡ (run_after (work_of self.old) palette.now (bytes memory.old) allowance).memory }
-        ensures job { work_of self.new ≡ at_stage (work_of self.old) (run_after (work_of self.old) palette.now (bytes memory.old) allowance) }
-        ensures pixels { Ran (work_of self.old) palette.now (numbered result) (bytes memory.old) (bytes memory.new) }
+        ensures answer { numbered result ≡ run_answer (work_of self.old) (M.bytes memory.old) allowance }
+        ensures memory { M.bytes memory.new ≡ (run_after (work_of self.old) palette.now (M.bytes memory.old) allowance).memory }
+        ensures job { work_of self.new ≡ at_stage (work_of self.old) (run_after (work_of self.old) palette.now (M.bytes memory.old) allowance) }
+        ensures pixels { Ran (work_of self.old) palette.now (numbered result) (M.bytes memory.old) (M.bytes memory.new) }
     {
         if memory.size() < self.size {
             return Err(Refusal::PastMemory);

@@ -60,7 +60,7 @@ fn still_drawing(begun: Begun) -> Activity
 impl<M: Memory> Panel<M> {
     // A panel with all registers and palette entries zero and nothing under way.
     pub fn new(memory: M) -> Panel<M>
-        ensures { seen bytes result ≡ fresh (bytes memory) }
+        ensures { seen M.bytes result ≡ fresh (M.bytes memory) }
     {
         Panel {
             memory,
@@ -94,8 +94,8 @@ impl<M: Memory> Panel<M> {
 
     // Starts an operation by a write of 90h.
     fn start(&mut self, value: u8) -> Result<(), Refusal>
-        ensures answer { numbered result ≡ answer_of (started_in (with_register (seen bytes self.old) 0x90 value) (clearing (settings_of self.old.registers.places value) (length (bytes self.old.memory)))) }
-        ensures after { seen bytes self.new ≡ after_of (seen bytes self.old) (started_in (with_register (seen bytes self.old) 0x90 value) (clearing (settings_of self.old.registers.places value) (length (bytes self.old.memory)))) }
+        ensures answer { numbered result ≡ answer_of (started_in (with_register (seen M.bytes self.old) 0x90 value) (clearing (settings_of self.old.registers.places value) (length (M.bytes self.old.memory)))) }
+        ensures after { seen M.bytes self.new ≡ after_of (seen M.bytes self.old) (started_in (with_register (seen M.bytes self.old) 0x90 value) (clearing (settings_of self.old.registers.places value) (length (M.bytes self.old.memory)))) }
     {
         match Draft::new(self.registers.settings(value)).clear(&self.memory) {
             Ok(cleared) => {
@@ -109,8 +109,8 @@ impl<M: Memory> Panel<M> {
     }
 
     pub fn write(&mut self, register: u8, value: u8) -> Result<(), Refusal>
-        ensures answer { numbered result ≡ answer_of (written (seen bytes self.old) register value) }
-        ensures after { seen bytes self.new ≡ after_of (seen bytes self.old) (written (seen bytes self.old) register value) }
+        ensures answer { numbered result ≡ answer_of (written (seen M.bytes self.old) register value) }
+        ensures after { seen M.bytes self.new ≡ after_of (seen M.bytes self.old) (written (seen M.bytes self.old) register value) }
     {
         if !Registers::exists(register) {
             return Err(Refusal::NoSuchRegister);
@@ -129,7 +129,7 @@ impl<M: Memory> Panel<M> {
     }
 
     pub fn read(&self, register: u8) -> Result<u8, Refusal>
-        ensures { numbered result ≡ register_read (seen bytes self.now) register }
+        ensures { numbered result ≡ register_read (seen M.bytes self.now) register }
     {
         if !Registers::exists(register) {
             return Err(Refusal::NoSuchRegister);
@@ -143,8 +143,8 @@ impl<M: Memory> Panel<M> {
 
     // Draws as many pixels as are allowed and left of the operation under way.
     pub fn run(&mut self, pixels: u32) -> Result<u32, Refusal>
-        ensures answer { numbered result ≡ run_answer (seen bytes self.old) (seen bytes self.old).doing pixels }
-        ensures after { seen bytes self.new ≡ run_after (seen bytes self.old) (seen bytes self.old).doing pixels }
+        ensures answer { numbered result ≡ run_answer (seen M.bytes self.old) (seen M.bytes self.old).doing pixels }
+        ensures after { seen M.bytes self.new ≡ run_after (seen M.bytes self.old) (seen M.bytes self.old).doing pixels }
     {
         match mem::replace(&mut self.activity, Activity::Idle) {
             Activity::Drawing(mut begun) => match begun.run(
@@ -170,8 +170,8 @@ impl<M: Memory> Panel<M> {
 
     // Ends what is under way, and answers the pixels that it drew.
     pub fn stop(&mut self) -> Result<u32, Refusal>
-        ensures answer { numbered result ≡ stop_answer (seen bytes self.old).doing }
-        ensures after { seen bytes self.new ≡ with_doing (seen bytes self.old) idle }
+        ensures answer { numbered result ≡ stop_answer (seen M.bytes self.old).doing }
+        ensures after { seen M.bytes self.new ≡ with_doing (seen M.bytes self.old) idle }
     {
         let drawn = match &self.activity {
             Activity::Idle => return Err(Refusal::NothingUnderWay),
@@ -183,14 +183,14 @@ impl<M: Memory> Panel<M> {
     }
 
     pub fn status(&self) -> u8
-        ensures { result ≡ status_of (seen bytes self.now).doing }
+        ensures { result ≡ status_of (seen M.bytes self.now).doing }
     {
         if self.is_busy() { BUSY } else { READY }
     }
 
     // One byte of display memory.
     pub fn memory_read(&self, address: u32) -> Result<u8, Refusal>
-        ensures { numbered result ≡ read_at (seen bytes self.now).memory address }
+        ensures { numbered result ≡ read_at (seen M.bytes self.now).memory address }
     {
         self.memory.read(address)
     }

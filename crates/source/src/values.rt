@@ -19,7 +19,7 @@ fn bit_of(number: u32, bit: u32) -> u32
 
 // The number that one byte of memory holds.
 fn held_at<M: Memory>(memory: &M, address: u64) -> u32
-    ensures { result ≡ value_at (bytes memory.now) address 1 }
+    ensures { result ≡ value_at (M.bytes memory.now) address 1 }
 {
     byte_at(memory, address) as u32
 }
@@ -27,7 +27,7 @@ fn held_at<M: Memory>(memory: &M, address: u64) -> u32
 impl Source {
     // The value of pixel k, where the host sent a number.
     pub fn value<M: Memory>(&self, memory: &M, sent: u32, k: u32) -> u32
-        ensures { result ≡ sampled (origin_of self.now) (bytes memory.now) sent k }
+        ensures { result ≡ sampled (origin_of self.now) (M.bytes memory.now) sent k }
     {
         match *self {
             Source::Unused => 0,
