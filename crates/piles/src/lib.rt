@@ -46,9 +46,9 @@ fn bytes_of_stretch<'a>(pile: Stretch<WriteQueue<ByteBoard<'a>>>) -> &'a mut [u8
 }
 
 fn try_stretch<M: Memory>(pile: &mut Stretch<M>, address: u32, value: u8) -> Tried
-    ensures answer { numbered result.answer ≡ (if has (bytes pile.old.below) pile.old.start pile.old.length address then Ok tt else Err 12) }
-    ensures seen { numbered result.seen ≡ (if has (bytes pile.old.below) pile.old.start pile.old.length address then Ok value else Err 12) }
-    ensures under { bytes pile.new.below ≡ (if has (bytes pile.old.below) pile.old.start pile.old.length address then slice_set (bytes pile.old.below) (pile.old.start + address) value else bytes pile.old.below) }
+    ensures answer { numbered result.answer ≡ (if has (M.bytes pile.old.below) pile.old.start pile.old.length address then Ok tt else Err 12) }
+    ensures seen { numbered result.seen ≡ (if has (M.bytes pile.old.below) pile.old.start pile.old.length address then Ok value else Err 12) }
+    ensures under { M.bytes pile.new.below ≡ (if has (M.bytes pile.old.below) pile.old.start pile.old.length address then slice_set (M.bytes pile.old.below) (pile.old.start + address) value else M.bytes pile.old.below) }
 {
     let answer = pile.put(address, value);
     let seen = pile.read(address);
@@ -103,10 +103,10 @@ fn queue_of_words<'a>(
 
 fn try_queue<M: Memory>(pile: &mut WriteQueue<Stretch<M>>, address: u32, value: u8) -> Tried
     requires { waiting pile.old.pending ≡ [] }
-    ensures answer { numbered result.answer ≡ (if has (bytes pile.old.below.below) pile.old.below.start pile.old.below.length address then Ok tt else Err 12) }
-    ensures seen { numbered result.seen ≡ (if has (bytes pile.old.below.below) pile.old.below.start pile.old.below.length address then Ok value else Err 12) }
-    ensures shown { laid (part (bytes pile.new.below.below) pile.new.below.start pile.new.below.length) (waiting pile.new.pending) ≡ slice_set (part (bytes pile.old.below.below) pile.old.below.start pile.old.below.length) address value }
-    ensures waits { length (waiting pile.new.pending) ≡ (if has (bytes pile.old.below.below) pile.old.below.start pile.old.below.length address then 1 else 0) }
+    ensures answer { numbered result.answer ≡ (if has (M.bytes pile.old.below.below) pile.old.below.start pile.old.below.length address then Ok tt else Err 12) }
+    ensures seen { numbered result.seen ≡ (if has (M.bytes pile.old.below.below) pile.old.below.start pile.old.below.length address then Ok value else Err 12) }
+    ensures shown { laid (part (M.bytes pile.new.below.below) pile.new.below.start pile.new.below.length) (waiting pile.new.pending) ≡ slice_set (part (M.bytes pile.old.below.below) pile.old.below.start pile.old.below.length) address value }
+    ensures waits { length (waiting pile.new.pending) ≡ (if has (M.bytes pile.old.below.below) pile.old.below.start pile.old.below.length address then 1 else 0) }
 {
     let answer = pile.put(address, value);
     let seen = pile.read(address);

@@ -32,6 +32,6 @@ returns g c =
     record {
       count = c.allowed-count.ensures;
       after = after;
-      holds = subst (PixelsHold o p sent first count m) (sym after) (painted_holds o p sent l.width-some l.inside l.height_some first count m few);
+      holds = subst (PixelsHold o p sent first count m) (sym after) (painted_holds o p sent l.width_some l.inside l.height_some first count m few);
       only = subst (OnlyPixels o first count m) (sym after) (painted_only o p sent first count m few);
     }
