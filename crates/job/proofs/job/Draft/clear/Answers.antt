@@ -7,8 +7,8 @@ use Rattle.job.proofs.Bounds.{stays}
 use Rattle.job.proofs.Starts.{cleared_none, declined_some, inside_none}
 use Rattle.job.proofs.job.Draft.clear.Goals as goal
 
-pub invariant-of-result : goal.invariant-of-result
-invariant-of-result g c =
+pub invariant_of-result : goal.invariant_of-result
+invariant_of-result g c =
     let s = c.args.self.settings in
     let size = c.size-size.result in
     let p = cleared_none (grounds s size) (plan_of c.in-Ok.drawing) (plan_at s) c.in-Ok.ensures in
