@@ -12,7 +12,7 @@ invariant_of-result g c =
     let s = c.args.self.settings in
     let size = c.size-size.result in
     let p = cleared_none (grounds s size) (plan_of c.in-Ok.drawing) (plan_at s) c.in-Ok.ensures in
-    ap (λ x. inside x size) p.1 ∙ inside_none s size p.0
+    record { accepted = ap (λ x. inside x size) p.1 ∙ inside_none s size p.0 }
 
 pub returns-in-Ok : goal.returns-in-Ok
 returns-in-Ok g c =
