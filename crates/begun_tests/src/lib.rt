@@ -1,3 +1,5 @@
+#![tactic(auto)]
+
 // Jobs that were declined and come back, and the refusals of a job that was begun.
 #[cfg(test)]
 mod drafts;

@@ -1,5 +1,5 @@
 -- Whole inputs: the lines in them, and what is written for them.
-use Rattle.std.specs.Prelude.{◌≡◌, ℕ, ◌<◌, cond, ◌≢◌, List, [], ◌∷◌, ◌++◌, length, ◌==◌}
+use Rattle.std.specs.Prelude.{◌≡◌, ℕ, cond, List, [], ◌∷◌, ◌++◌, ◌==◌}
 use Rattle.panel.specs.State.{State}
 use Rattle.bench_lines.specs.Answers.{reply_line}
 use Rattle.bench_lines.specs.Commands.{command_of}

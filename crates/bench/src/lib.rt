@@ -1,4 +1,6 @@
 // The bench: lines in, panel calls, lines out.
+#![tactic(auto)]
+
 ghost use Rattle.std.specs.Prelude.{◌≡◌, ℕ, ◌<◌, ◌≤◌, List, [], ◌∷◌, ◌++◌, replicate, OnOk};
 ghost use Rattle.refusal.specs.Numbers.{numbered};
 ghost use Rattle.panel.specs.State.{seen, fresh};

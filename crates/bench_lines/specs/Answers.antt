@@ -1,5 +1,5 @@
 -- How an answer is written.
-use Rattle.std.specs.Prelude.{ℕ, ◌+◌, ◌-◌, ◌*◌, ◌/◌, ◌%◌, cond, List, [], ◌∷◌, ◌++◌, codes, nat_lt}
+use Rattle.std.specs.Prelude.{ℕ, ◌+◌, ◌/◌, ◌%◌, cond, List, [], ◌∷◌, ◌++◌, codes, nat_lt}
 use Rattle.refusal.specs.Numbers.{number_of}
 use Rattle.bench_lines.specs.declared.answer.Answer.{Answer}
 use Rattle.bench_lines.specs.declared.answer.Answer.TheVariants as answer

@@ -1,5 +1,5 @@
 -- Hexadecimal digits and spaces of a line.
-use Rattle.std.specs.Prelude.{ℕ, ◌+◌, ◌-◌, ◌*◌, ◌/◌, ◌%◌, Bool, cond, ◌&&◌, List, [], ◌∷◌, ◌++◌, Some, None, Option, ◌==◌, nat_le, slice_index}
+use Rattle.std.specs.Prelude.{ℕ, ◌+◌, ◌-◌, ◌*◌, Bool, cond, ◌&&◌, List, Some, None, Option, ◌==◌, nat_le, slice_index}
 
 -- the value of an upper-case hexadecimal digit
 abbrev pub digit_value : ℕ → Option ℕ

@@ -1,4 +1,6 @@
 // The bench's lines: which command a line is, and how an answer is written.
+#![tactic(auto)]
+
 mod answer;
 mod command;
 

@@ -1,4 +1,6 @@
 // Obeys the lines on standard input, at most 65,536 bytes of them, and writes an answer for each.
+#![tactic(auto)]
+
 use bench::run;
 use std::io::{Read, Write};
 

@@ -1,4 +1,6 @@
 // A canvas format that stands in a crate of its own: 5:6:5 with blue in the highest bits and red in the lowest.
+#![tactic(auto)]
+
 ghost use Rattle.std.specs.Prelude.{◌≡◌, ℕ, ◌+◌, ◌-◌, ◌*◌, ◌/◌, ◌%◌, ◌^◌, ◌<◌, ◌≤◌};
 ghost use Rattle.blue_first.specs.Packed.{formatBgr, narrowBgr};
 ghost use Rattle.blue_first.specs.Laws.{narrowsBgr};

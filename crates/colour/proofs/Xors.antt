@@ -1,9 +1,8 @@
 -- The exclusive or, made of complements and ands: so narrowing keeps it too.
 use mathlib.Core.Path.{◌≡◌, refl, sym, ap, ◌∙◌}
-use mathlib.Core.Logic.{⊎_elim}
-use Prim.Native.Nat.{ℕ, zero, suc, ◌<◌, ◌≤◌, ◌-◌, ◌+◌, ◌*◌, ◌/◌, ◌%◌, ◌^◌}
+use Prim.Native.Nat.{ℕ, zero, suc, ◌<◌, ◌-◌, ◌+◌, ◌*◌, ◌/◌, ◌%◌, ◌^◌}
 use native.Mathlib.Omega.{arith}
-use lib.Pow.{pow-add, pow_pos}
+use lib.Pow.{pow-add}
 use lib.Bits.{bit_and, bit_xor, and_block, xor_block, and_lt, and_le_l, xor_lt, xor_assoc, xor_self, xor_zero_l}
 use native.Mathlib.Numerals.{add-one}
 use Rattle.colour.specs.declared.Colour.{Colour}

@@ -1,4 +1,6 @@
 // Colours, the palette, and what a pixel format has to be.
+#![tactic(auto)]
+
 ghost use Rattle.std.specs.Prelude.{◌≡◌, ℕ, ◌+◌, ◌-◌, ◌*◌, ◌/◌, ◌%◌, ◌^◌, ◌<◌, ◌≤◌, set, replicate};
 ghost use Rattle.colour.specs.declared.Colour.{Colour};
 ghost use Rattle.colour.specs.Entries.{entry_of_bytes, entry_colour, entry_at, palette_colour};

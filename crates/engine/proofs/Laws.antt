@@ -1,10 +1,10 @@
 -- The laws of drawing.
-use Rattle.std.proofs.Common.{◌≡◌, ℕ, zero, suc, ◌+◌, ◌-◌, ◌*◌, ◌%◌, ◌^◌, ◌<◌, ◌≤◌, min, Bool, true, false, cond, ltb, ◌≢◌, List, [], ◌∷◌, ◌++◌, length, get_or, Some, None, Option, refl, ap, ◌∙◌, subst, ⊎_elim, add_assoc, arith}
+use Rattle.std.proofs.Common.{◌≡◌, ℕ, zero, suc, ◌+◌, ◌-◌, ◌<◌, ◌≤◌, Bool, true, false, cond, ltb, ◌≢◌, List, [], ◌∷◌, ◌++◌, length, get_or, Some, None, Option, refl, ap, ◌∙◌, subst, ⊎_elim, add_assoc, arith}
 use Rattle.std.proofs.lemmas.Bool.{cases_lt}
 use Rattle.colour.specs.declared.Colour.{Colour}
 use Rattle.colour.specs.declared.Palette.{Palette}
 use Rattle.window.specs.Apart.{Off, Apart}
-use Rattle.window.specs.Places.{pixels, place, reach}
+use Rattle.window.specs.Places.{pixels}
 use Rattle.window.specs.Values.{value_at}
 use Rattle.window.proofs.Frames.{length_stored, get_or_stored, value_stored, value_back_low}
 use Rattle.window.proofs.Places.{place_inside, places_apart}

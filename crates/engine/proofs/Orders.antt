@@ -1,5 +1,5 @@
 -- Drawings whose pixels commute, and drawings that undo themselves.
-use Rattle.std.proofs.Common.{◌≡◌, ℕ, zero, suc, ◌+◌, ◌<◌, ◌≤◌, ◌≢◌, List, sym, refl, ap, ◌∙◌, add-zero, add_assoc, add-suc, arith}
+use Rattle.std.proofs.Common.{◌≡◌, ℕ, zero, suc, ◌+◌, ◌<◌, ◌≢◌, List, sym, refl, ap, ◌∙◌, add-zero, add_assoc, add-suc, arith}
 use Rattle.engine.specs.Painted.{painted}
 
 module _ (Good : List ℕ → Type 0) (draw : ℕ → List ℕ → List ℕ) (kept : (k : ℕ) (m : List ℕ) → Good m → Good (draw k m)) where

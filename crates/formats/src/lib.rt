@@ -1,4 +1,6 @@
 // Pixel formats: the canvases 3:3:2, 5:6:5 and 8:8:8, and the overlays Index 2:6 and 4:4:4:4.
+#![tactic(auto)]
+
 ghost use Rattle.std.specs.Prelude.{◌≡◌, ℕ, ◌+◌, ◌-◌, ◌*◌, ◌/◌, ◌%◌, ◌^◌, ◌<◌, ◌≤◌};
 ghost use Rattle.formats.specs.Packed.{format332, narrow332, format565, narrow565, format888, narrow888};
 ghost use Rattle.formats.specs.Depths.{depth_format, depth_narrow};

@@ -1,3 +1,5 @@
+#![tactic(auto)]
+
 // The grounds on which a draft is declined, each at its edge.
 #[cfg(test)]
 mod limits;

@@ -1,13 +1,13 @@
 -- What has passed the tests stays inside memory.
-use Rattle.std.proofs.Common.{◌≡◌, ℕ, ◌+◌, ◌*◌, ◌<◌, ◌≤◌, Bool, true, false, ◌&&◌, leb, sym, refl, ap, ◌∙◌, subst, arith}
+use Rattle.std.proofs.Common.{◌≡◌, ℕ, ◌+◌, ◌*◌, ◌<◌, ◌≤◌, Bool, true, false, ◌&&◌, leb, sym, ap, subst, arith}
 use Rattle.std.proofs.lemmas.Bool.{and_parts, leb-true}
 use Rattle.formats.specs.declared.Depth.{Depth}
 use Rattle.formats.specs.Depths.{depth_format}
 use Rattle.rules.specs.declared.chosen.Rule.{Rule}
-use Rattle.window.specs.Places.{pixels, reach, area_of}
+use Rattle.window.specs.Places.{pixels, reach}
 use Rattle.window.proofs.Limits.{limits_of}
 use Rattle.window.proofs.Places.{place_inside}
-use Rattle.source.specs.Origins.{Origin, origin_of, taken_from, taken}
+use Rattle.source.specs.Origins.{Origin, taken_from, taken}
 use Rattle.source.specs.Reaches.{reach_of, Has, TakenInside}
 use Rattle.source.proofs.Reaches.{taken_inside}
 use Rattle.engine.specs.declared.drawing.Drawing.{Drawing}

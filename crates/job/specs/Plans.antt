@@ -1,6 +1,5 @@
 -- What the settings of a start mean.
-use Rattle.std.specs.Prelude.{ℕ, Bool, true, cond, ◌&&◌, ◌||◌, ◌==◌}
-use Rattle.colour.specs.declared.Colour.{Colour}
+use Rattle.std.specs.Prelude.{ℕ, Bool, cond, ◌==◌}
 use Rattle.formats.specs.declared.Depth.{Depth}
 use Rattle.formats.specs.declared.Depth.TheVariants.{Rgb332, Rgb565, Rgb888}
 use Rattle.formats.specs.declared.OverlayKind.{OverlayKind}
@@ -10,7 +9,7 @@ use Rattle.formats.specs.OverlayKinds.{overlay_format}
 use Rattle.rules.specs.declared.chosen.Rule.{Rule}
 use Rattle.rules.specs.declared.chosen.Rule.TheVariants as rule
 use Rattle.rules.specs.Chosen.{rule_yields}
-use Rattle.window.specs.Places.{Area, area_of, reach}
+use Rattle.window.specs.Places.{Area, area_of}
 use Rattle.source.specs.Rows.{Rows}
 use Rattle.source.specs.Origins.{Origin, origin_of, unused, host, host_bits, image, pattern, bits}
 use Rattle.engine.specs.declared.drawing.Drawing.{Drawing}

@@ -1,4 +1,6 @@
 // An operation from its settings to its last pixel: drafted, cleared against a memory, begun, fed or run, and closed.
+#![tactic(auto)]
+
 mod clear;
 mod job;
 mod operation;

@@ -1,3 +1,5 @@
+#![tactic(auto)]
+
 // Small pictures through layers over both boards.
 #[cfg(test)]
 mod pictures;

@@ -1,4 +1,6 @@
 // Layers over display memory, each a memory again: a write queue, and a stretch of what lies below.
+#![tactic(auto)]
+
 mod pending;
 mod queue;
 mod stretch;

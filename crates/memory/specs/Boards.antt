@@ -1,5 +1,5 @@
 -- What the two boards show.
-use Rattle.std.specs.Prelude.{ℕ, ◌+◌, ◌*◌, ◌/◌, ◌%◌, ◌<◌, ◌≤◌, min, cond, List, length, ◌==◌, slice_index}
+use Rattle.std.specs.Prelude.{ℕ, ◌+◌, ◌*◌, ◌/◌, ◌%◌, min, cond, List, length, ◌==◌, slice_index}
 use Rattle.std.proofs.Common.{arith}
 use Rattle.memory.specs.Bytes.{Sound, view}
 use Rattle.memory.specs.View.{view_sound}

@@ -1,4 +1,6 @@
 // Display memory, and the two boards that a maker can lend to it.
+#![tactic(auto)]
+
 ghost use Rattle.std.specs.Prelude.{◌≡◌, ℕ, ◌+◌, ◌*◌, ◌/◌, ◌%◌, ◌<◌, ◌≤◌, List, length, drop, slice_index, slice_set};
 ghost use Rattle.refusal.specs.Numbers.{numbered};
 ghost use Rattle.memory.specs.Bytes.{Sound, read_at, put_at};

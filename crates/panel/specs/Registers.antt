@@ -1,5 +1,5 @@
 -- The register file.
-use Rattle.std.specs.Prelude.{ℕ, ◌+◌, ◌*◌, ◌/◌, ◌%◌, Bool, cond, ◌&&◌, ◌||◌, List, ◌==◌, nat_le, slice_index}
+use Rattle.std.specs.Prelude.{ℕ, ◌+◌, ◌*◌, ◌/◌, ◌%◌, Bool, ◌&&◌, ◌||◌, List, ◌==◌, nat_le, slice_index}
 use Rattle.colour.specs.declared.Colour.{Colour}
 use Rattle.colour.specs.Channels.{rgb}
 use Rattle.job.specs.declared.settings.Settings.{Settings}

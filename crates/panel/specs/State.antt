@@ -1,5 +1,5 @@
 -- A panel as plain values, and what each call answers and leaves.
-use Rattle.std.specs.Prelude.{ℕ, ◌+◌, ◌-◌, ◌/◌, ◌%◌, Bool, true, false, cond, ◌&&◌, List, length, set, replicate, Ok, Err, Result, ◌==◌, bit_and, bit_or, slice_index, slice_set}
+use Rattle.std.specs.Prelude.{ℕ, ◌/◌, ◌%◌, Bool, true, false, cond, ◌&&◌, List, length, replicate, Ok, Err, Result, ◌==◌, bit_and, bit_or, slice_index, slice_set}
 use Rattle.colour.specs.declared.Palette.{Palette}
 use Rattle.job.specs.Works as job
 use Rattle.job.specs.Works.{Work, work_of, Clearing, cleared, declined, clearing, serves, awaits, runs, at_stage, run_stage}

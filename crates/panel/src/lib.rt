@@ -1,4 +1,6 @@
 // The panel: a register file, a palette and what is under way, over any memory.
+#![tactic(auto)]
+
 mod activity;
 mod calls;
 mod panel;

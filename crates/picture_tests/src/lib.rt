@@ -1,3 +1,5 @@
+#![tactic(auto)]
+
 // Small pictures of every operation, worked by hand. Bytes are written as they lie in memory, low byte first.
 #[cfg(test)]
 mod blends;

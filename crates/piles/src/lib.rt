@@ -1,4 +1,6 @@
 // Two piles of layers over the two boards, and what a put through each leaves.
+#![tactic(auto)]
+
 ghost use Rattle.std.specs.Prelude.{◌≡◌, ◌+◌, [], length, if◌then◌else◌, Ok, Err, slice_set};
 ghost use Rattle.refusal.specs.Numbers.{numbered};
 ghost use Rattle.memory.specs.Boards.{of_bytes, of_words};

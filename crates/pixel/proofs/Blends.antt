@@ -1,5 +1,5 @@
 -- Laws of blends.
-use Rattle.std.proofs.Common.{◌≡◌, ℕ, ◌+◌, ◌-◌, ◌*◌, ◌/◌, ◌<◌, ◌≤◌, min, max, sym, ap, ◌∙◌, mul-le-mul_right, mul-add, arith}
+use Rattle.std.proofs.Common.{◌≡◌, ℕ, ◌+◌, ◌-◌, ◌*◌, ◌<◌, ◌≤◌, min, max, sym, ap, ◌∙◌, mul-le-mul_right, mul-add, arith}
 use native.Mathlib.Nat.{min-le_left, min-le_right, le-max_left, le-max_right}
 use Rattle.colour.specs.declared.Colour.{Colour}
 use Rattle.colour.specs.Channels.{Channels}

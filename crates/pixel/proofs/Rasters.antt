@@ -1,9 +1,9 @@
 -- Laws of raster rules.
-use Rattle.std.proofs.Common.{◌≡◌, ℕ, zero, suc, ◌+◌, ◌*◌, ◌/◌, ◌%◌, ◌^◌, ◌<◌, sym, refl, ap, ◌∙◌, arith}
-use lib.Bits.{bit_xor, differ, xor_step, xor_zero_l}
+use Rattle.std.proofs.Common.{◌≡◌, ℕ, zero, suc, ◌/◌, ◌%◌, ◌^◌, ◌<◌, refl, arith}
+use lib.Bits.{bit_xor, differ, xor_step}
 use Rattle.colour.specs.declared.Colour.{Colour}
-use Rattle.colour.specs.Channels.{Channels, rgb, xored}
-use Rattle.pixel.specs.Rasters.{chosen, raster_bits, raster_channel, rastered}
+use Rattle.colour.specs.Channels.{Channels, xored}
+use Rattle.pixel.specs.Rasters.{chosen, raster_bits, rastered}
 use Rattle.pixel.proofs.Minterms.{double}
 
 raster_lt : (n rule x y : ℕ) → raster_bits n rule x y < 2 ^ n

@@ -1,4 +1,6 @@
 // What a pixel becomes: the rules that make a colour of its sources, or none, which leaves the pixel as it is.
+#![tactic(auto)]
+
 ghost use Rattle.std.specs.Prelude.{◌≡◌, ℕ, ◌+◌, ◌-◌, ◌*◌, ◌/◌, ◌%◌, ◌<◌, ◌≤◌, Some, None};
 ghost use Rattle.pixel.specs.Rasters.{raster_channel, rastered};
 ghost use Rattle.pixel.specs.Blends.{blend_channel, blended, Between, SomeBetween};

@@ -1,3 +1,5 @@
+#![tactic(auto)]
+
 // Tables of the rules on pixels, against values worked by hand.
 #[cfg(test)]
 mod bit_rows;

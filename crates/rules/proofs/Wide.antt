@@ -1,5 +1,5 @@
 -- What a rule yields has channels of 8 bits, if the colours that the rule holds have.
-use Rattle.std.proofs.Common.{ℕ, ◌%◌, Bool, true, false, cond, eqb, Some, None}
+use Rattle.std.proofs.Common.{ℕ, ◌%◌, true, false, cond, eqb, Some, None}
 use Rattle.colour.specs.declared.Colour.{Colour}
 use Rattle.colour.specs.declared.Palette.{Palette}
 use Rattle.colour.specs.Channels.{Channels}

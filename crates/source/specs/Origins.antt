@@ -1,5 +1,5 @@
 -- Where an operation takes the values of its pixels from.
-use Rattle.std.specs.Prelude.{ℕ, ◌+◌, ◌-◌, ◌*◌, ◌/◌, ◌%◌, ◌^◌, List}
+use Rattle.std.specs.Prelude.{ℕ, ◌/◌, ◌%◌, ◌^◌, List}
 use Rattle.window.specs.Places.{Area, area_of, place, cell}
 use Rattle.window.specs.Values.{value_at}
 use Rattle.source.specs.declared.source.Source.{Source}

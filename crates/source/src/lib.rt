@@ -1,4 +1,6 @@
 // Where an operation takes the values of its pixels from.
+#![tactic(auto)]
+
 mod bits;
 mod rows;
 mod source;

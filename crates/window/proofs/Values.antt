@@ -1,5 +1,5 @@
 -- Pixel values in memory.
-use Rattle.std.proofs.Common.{◌≡◌, ℕ, zero, suc, ◌+◌, ◌-◌, ◌*◌, ◌/◌, ◌%◌, ◌^◌, ◌<◌, ◌≤◌, List, length, get_or, set, sym, refl, ap, ◌∙◌, mul-suc, add-one, arith, lit<, lit≤, pow_pos, pow-add}
+use Rattle.std.proofs.Common.{◌≡◌, ℕ, zero, suc, ◌+◌, ◌-◌, ◌*◌, ◌/◌, ◌%◌, ◌^◌, ◌<◌, ◌≤◌, List, get_or, set, refl, ap, ◌∙◌, mul-suc, add-one, arith, lit<, lit≤, pow-add}
 use Rattle.memory.specs.Bytes.{Sound}
 use Rattle.window.specs.Values.{value_at, stored}
 

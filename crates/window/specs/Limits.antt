@@ -1,5 +1,5 @@
 -- The limits within which a window exists.
-use Rattle.std.specs.Prelude.{ℕ, ◌+◌, ◌≤◌, min, Bool, ◌&&◌, nat_le}
+use Rattle.std.specs.Prelude.{ℕ, ◌+◌, min, Bool, ◌&&◌, nat_le}
 
 -- a number from 1 to the limit; a limit above 8,191 counts as 8,191
 abbrev pub side : ℕ → ℕ → Bool

@@ -1,5 +1,5 @@
 -- Pixel values in memory, low byte first.
-use Rattle.std.specs.Prelude.{ℕ, zero, suc, ◌+◌, ◌*◌, ◌/◌, ◌%◌, ◌<◌, ◌≢◌, List, slice_index, slice_set}
+use Rattle.std.specs.Prelude.{ℕ, zero, suc, ◌+◌, ◌*◌, ◌/◌, ◌%◌, List, slice_index, slice_set}
 
 -- the number that b bytes from a on hold
 unfoldable pub value_at : List ℕ → ℕ → ℕ → ℕ

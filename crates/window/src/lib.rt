@@ -1,4 +1,6 @@
 // Windows: rectangles of pixels within an image in display memory.
+#![tactic(auto)]
+
 mod bytes;
 mod pixels;
 mod size;

@@ -1,4 +1,6 @@
 // Worked examples: one table of values, each computed by the public calls.
+#![tactic(auto)]
+
 ghost use Rattle.std.specs.Prelude.{◌≡◌, ℕ, ◌≤◌};
 ghost use Rattle.source.specs.Units.{unit_bits};
 ghost use Rattle.source.specs.Rows.{rows_at};

@@ -1,8 +1,8 @@
-use Rattle.std.proofs.Common.{◌≡◌, ◌++◌, vec_items, sym, refl, ap, ◌∙◌, subst}
+use Rattle.std.proofs.Common.{◌++◌, vec_items, refl, ap, ◌∙◌}
 use Rattle.std.proofs.lemmas.Result.{IfOk-from_err}
 use Rattle.panel.specs.State.{seen}
 use Rattle.bench_lines.specs.Answers.{reply_line}
-use Rattle.bench.proofs.Replays.{Going, going_none, going_here, going_there, going_all, begun}
+use Rattle.bench.proofs.Replays.{going_none, going_here, going_there, going_all, begun}
 use Rattle.bench.proofs.replay.Goals as goal
 use Rattle.bench.proofs.replay.Goals.{then-input-i-eq10+in_ok-write_to, else-input-i-eq10}
 

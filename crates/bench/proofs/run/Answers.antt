@@ -1,4 +1,4 @@
-use Rattle.std.proofs.Common.{◌≡◌, ℕ, List, ◌++◌, replicate, vec_items, ap, ◌∙◌, lit≤}
+use Rattle.std.proofs.Common.{ℕ, List, ◌++◌, replicate, vec_items, ap, ◌∙◌, lit≤}
 use Rattle.std.proofs.lemmas.Result.{IfOk-weaker}
 use Rattle.memory.specs.Boards.{of_bytes}
 use Rattle.memory.proofs.Boards.{bytes_zero}

@@ -1,5 +1,4 @@
-use Rattle.std.proofs.Common.{◌≡◌, ◌+◌, ◌-◌, ◌*◌, ◌/◌, min, [], ◌++◌, length, take, Some, None, sym, refl, ap, ◌∙◌, append-nil, arith}
-use native.Mathlib.Nat.{sub-zero}
+use Rattle.std.proofs.Common.{◌≡◌, ◌+◌, ◌-◌, ◌*◌, ◌/◌, min, length, take, Some, sym, refl, ap, ◌∙◌, append-nil, arith}
 use Rattle.std.proofs.lemmas.List.{length-set}
 use Rattle.bench_lines.specs.Commands.{as_burst, burst, bytes_at, meant}
 use Rattle.bench_lines.proofs.Bursts.{prefixed, prefixed_none, from, from_some, from_none, burst_shaped}

@@ -1,4 +1,4 @@
-use Rattle.std.proofs.Common.{◌≡◌, ◌-◌, ◌/◌, length, take}
+use Rattle.std.proofs.Common.{◌≡◌, length, take}
 use Rattle.bench_lines.specs.Commands.{bytes_at}
 use Rattle.bench_lines.proofs.Bursts.{prefixed, from}
 use Rattle.bench_lines.proofs.command.parse_burst.Given as goal

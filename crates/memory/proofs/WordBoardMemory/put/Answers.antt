@@ -1,4 +1,4 @@
-use Rattle.std.proofs.Common.{◌/◌, get_or, drop, set, refl, ap, ◌∙◌, arith}
+use Rattle.std.proofs.Common.{◌/◌, get_or, drop, refl, ap, ◌∙◌, arith}
 use Rattle.std.proofs.lemmas.List.{drop-set-lt}
 use Rattle.memory.specs.Boards.{of_words, with_half}
 use Rattle.memory.proofs.Access.{put_in, put_past, kept_past}

@@ -1,4 +1,4 @@
-use Rattle.std.proofs.Common.{◌*◌, ◌<◌, min, length, get_or, Ok, sym, ap, ◌∙◌, arith}
+use Rattle.std.proofs.Common.{◌*◌, min, length, Ok, sym, ap, ◌∙◌, arith}
 use Rattle.memory.specs.Boards.{of_words, in_words, half}
 use Rattle.memory.specs.View.{view_at}
 use Rattle.memory.proofs.Access.{read_in}

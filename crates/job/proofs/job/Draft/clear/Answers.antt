@@ -1,4 +1,4 @@
-use Rattle.std.proofs.Common.{length, sym, ap, ◌∙◌}
+use Rattle.std.proofs.Common.{sym, ap, ◌∙◌}
 use Rattle.refusal.specs.Numbers.{number_of}
 use Rattle.job.specs.Plans.{plan_of, plan_at}
 use Rattle.job.specs.Grounds.{grounds, inside}

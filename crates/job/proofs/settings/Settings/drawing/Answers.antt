@@ -1,9 +1,8 @@
-use Rattle.std.proofs.Common.{◌≡◌, ℕ, Ok, sym, refl, ap, ◌∙◌}
+use Rattle.std.proofs.Common.{◌≡◌, Ok, sym, refl, ap, ◌∙◌}
 use Rattle.formats.specs.declared.Depth.{Depth}
 use Rattle.rules.specs.declared.chosen.Rule.{Rule}
 use Rattle.window.specs.Places.{Area, area_of}
 use Rattle.source.specs.Origins.{Origin, origin_of}
-use Rattle.job.specs.declared.settings.Settings.{Settings}
 use Rattle.job.specs.Operations.{code_of, first_kind, uses_second}
 use Rattle.job.specs.Plans.{Plan, area_at, first_at, second_at, plan_for}
 use Rattle.job.specs.Grounds.{limited, first_limited, second_limited, all_limited, plan_shown, or_7}

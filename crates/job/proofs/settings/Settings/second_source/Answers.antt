@@ -1,4 +1,4 @@
-use Rattle.std.proofs.Common.{sym, refl, ap, ◌∙◌}
+use Rattle.std.proofs.Common.{refl, ap, ◌∙◌}
 use Rattle.job.specs.Plans.{area_at, second_at}
 use Rattle.job.specs.Grounds.{limited, second_limited, source_shown}
 use Rattle.job.proofs.Starts.{broke}

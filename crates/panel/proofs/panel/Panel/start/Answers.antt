@@ -1,7 +1,7 @@
-use Rattle.std.proofs.Common.{◌≡◌, ℕ, List, length, set, sym, ap, ◌∙◌}
-use Rattle.job.specs.Works.{cleared, cleared_work, work_of, clearing}
+use Rattle.std.proofs.Common.{◌≡◌, ℕ, List, length, set, ap, ◌∙◌}
+use Rattle.job.specs.Works.{cleared, cleared_work, clearing}
 use Rattle.panel.specs.Registers.{settings_of}
-use Rattle.panel.specs.State.{State, Doing, seen, with_register, with_doing, under_way, doing_of}
+use Rattle.panel.specs.State.{State, Doing, seen, with_register, under_way, doing_of}
 use Rattle.panel.proofs.Leaves.{start_answered, start_left}
 use Rattle.panel.proofs.panel.Panel.start.Goals as goal
 
