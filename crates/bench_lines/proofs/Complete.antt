@@ -2,7 +2,7 @@
 use Rattle.std.proofs.Common.{◌≡◌, ℕ, ◌+◌, ◌-◌, ◌*◌, ◌/◌, ◌%◌, ◌<◌, ◌≤◌, List, [], ◌∷◌, length, get_or, drop, Some, sym, refl, ap, ◌∙◌, add-zero, arith}
 use Rattle.std.proofs.lemmas.List.{get_or-drop, drop-drop}
 use Rattle.bench_lines.proofs.Bursts.{burst_shaped}
-use Rattle.std.specs.List.{flat_map, AllByRecursion as All}
+use Rattle.std.specs.List.{flat_map, AllByRecursion}
 use Rattle.bench_lines.specs.Digits.{both_of, byte_at}
 use Rattle.bench_lines.specs.Answers.{digit, hex_byte}
 use Rattle.bench_lines.specs.Commands.{Call, write, read, burst, run, stop, status, memory, command_of, bytes_at, as_burst, with_first}
@@ -47,7 +47,7 @@ memory_back n h =
     ∙ ap (λ n. Some (memory n)) whole
 
 -- the bytes that the digits from a place on spell
-bytes_back : (l : List ℕ) (k : ℕ) (bs : List ℕ) → All (λ b. b < 256) bs → drop k l ≡ flat_map hex_byte bs → bytes_at l k (length bs) ≡ Some bs
+bytes_back : (l : List ℕ) (k : ℕ) (bs : List ℕ) → AllByRecursion (λ b. b < 256) bs → drop k l ≡ flat_map hex_byte bs → bytes_at l k (length bs) ≡ Some bs
 bytes_back l k [] h e = refl
 bytes_back l k (b ∷ bs) h e =
     let high : get_or l k 0 ≡ digit (b / 16 % 16) = ap (λ i. get_or l i 0) (sym (add-zero k)) ∙ sym (get_or-drop k l 0 0) ∙ ap (λ t. get_or t 0 0) e in
@@ -60,7 +60,7 @@ length_digits : (bs : List ℕ) → length (flat_map hex_byte bs) ≡ 2 * length
 length_digits [] = refl
 length_digits (b ∷ bs) = let e = length_digits bs in omega arith
 
-burst_back : (bs : List ℕ) → 1 ≤ length bs → length bs ≤ 32 → All (λ b. b < 256) bs → command_of (spelled (burst bs)) ≡ Some (burst bs)
+burst_back : (bs : List ℕ) → 1 ≤ length bs → length bs ≤ 32 → AllByRecursion (λ b. b < 256) bs → command_of (spelled (burst bs)) ≡ Some (burst bs)
 burst_back bs low high each =
     let l = spelled (burst bs) in
     let e = length_digits bs in

@@ -1,6 +1,6 @@
 -- A line that is a command is the spelling of that command.
 use Rattle.std.proofs.Common.{◌≡◌, ℕ, zero, suc, ◌+◌, ◌-◌, ◌*◌, ◌/◌, ◌%◌, ◌<◌, true, cond, ◌&&◌, eqb, leb, ◌⊎◌, List, [], ◌∷◌, ◌++◌, length, get_or, drop, Some, None, Option, sym, refl, ap, ◌∙◌, subst, inl, inr, ⊎_elim, arith}
-use Rattle.std.specs.List.{flat_map, AllByRecursion as All}
+use Rattle.std.specs.List.{flat_map, AllByRecursion}
 use Rattle.std.proofs.lemmas.Bool.{eqb-true, leb-true, and_parts, cases_Bool, cond-true, cond-false}
 use Rattle.std.proofs.lemmas.List.{drop_more, drop_all}
 use Rattle.bench_lines.specs.Digits.{both_of, byte_at, spaced}
@@ -109,7 +109,7 @@ burst_some (Some bs) c e = (bs, refl, cc)
 
 -- the digits from a place on, n bytes of them, spell the bytes that were read there
 abbrev DigitsOf : List ℕ → ℕ → ℕ → List ℕ → Type 0
-DigitsOf l k n bs = (drop k l ≡ flat_map hex_byte bs) × (length bs ≡ n) × All (λ b. b < 256) bs
+DigitsOf l k n bs = (drop k l ≡ flat_map hex_byte bs) × (length bs ≡ n) × AllByRecursion (λ b. b < 256) bs
 
 bytes_only : (l : List ℕ) (k n : ℕ) (bs : List ℕ) → k + 2 * n ≡ length l → bytes_at l k n ≡ Some bs → DigitsOf l k n bs
 bytes_only l k zero bs h e =

@@ -1,6 +1,6 @@
 -- How each call is written as a line, and which calls can be written.
 use Rattle.std.specs.Prelude.{ℕ, ◌/◌, ◌<◌, ◌≤◌, List, ◌++◌, length, codes}
-use Rattle.std.specs.List.{flat_map, AllByRecursion as All}
+use Rattle.std.specs.List.{flat_map, AllByRecursion}
 use Rattle.bench_lines.specs.Answers.{hex_byte, hex_count}
 use Rattle.bench_lines.specs.Commands.{Call, write, read, burst, run, stop, status, memory}
 
@@ -22,7 +22,7 @@ spelled (memory a) = codes "M " ++ hex_address a
 abbrev pub Sayable : Call → Type 0
 Sayable (write r v) = (r < 256) × (v < 256)
 Sayable (read r) = r < 256
-Sayable (burst bs) = (1 ≤ length bs) × (length bs ≤ 32) × All (λ b. b < 256) bs
+Sayable (burst bs) = (1 ≤ length bs) × (length bs ≤ 32) × AllByRecursion (λ b. b < 256) bs
 Sayable (run n) = n < 65536
 Sayable stop = Unit {0}
 Sayable status = Unit {0}
