@@ -149,7 +149,7 @@ module _ (o : Op) (p : Palette) where
       let P : Bool → Type 0 = λ t. Grew o s (cond t (come o p s (s.waiting ++ b ∷ [])) s) in
       elim (takes o s.drawn) as P [ true ↦ come_grew s (s.waiting ++ b ∷ []) | false ↦ grew_none s s refl refl ]
 
-  fed_grew : (s : Stage) (xs : List ℕ) → Grew o s (fed o p s xs)
+  pub fed_grew : (s : Stage) (xs : List ℕ) → Grew o s (fed o p s xs)
   unfolding fed
   fed_grew s [] = grew_none s s refl refl
   fed_grew s (x ∷ xs) = grew_more s (byte_fed o p s x) (fed o p (byte_fed o p s x) xs) (byte_grew s x) (fed_grew (byte_fed o p s x) xs)

@@ -1,3 +1,4 @@
 pub mod Painted
 pub mod Fed
 pub mod Laws
+pub mod Inside

@@ -4,6 +4,7 @@
 mod draw;
 mod drawing;
 mod feed;
+mod inside;
 mod waiting;
 
 pub use drawing::{Drawing, Progress};
