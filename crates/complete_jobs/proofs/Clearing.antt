@@ -9,7 +9,7 @@ use Rattle.complete.proofs.Completing.{Owed, owed, owed_declined}
 use Rattle.job.specs.declared.settings.Settings.{Settings}
 use Rattle.job.specs.Plans.{plan_at, op_at}
 use Rattle.job.specs.Grounds.{grounds}
-use Rattle.job.specs.Works.{Work, Clearing, cleared, declined, judged, clearing, fresh_work, serves, stage_of}
+use Rattle.job.specs.Works.{Work, cleared, declined, judged, clearing, fresh_work, serves, stage_of}
 use Rattle.complete_jobs.specs.Ways.{way_of}
 use Rattle.complete_jobs.proofs.Accepting.{accepted_settings}
 

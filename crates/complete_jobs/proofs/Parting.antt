@@ -1,7 +1,7 @@
 -- The parts of a job, one after another.
-use Rattle.std.proofs.Common.{◌≡◌, ℕ, ◌+◌, ◌<◌, ◌≤◌, min, Bool, true, false, cond, leb, List, map, length, get_or, drop, sym, refl, ap, ◌∙◌, arith}
+use Rattle.std.proofs.Common.{◌≡◌, ℕ, ◌+◌, ◌<◌, ◌≤◌, Bool, true, false, cond, leb, List, map, length, get_or, drop, sym, refl, ap, ◌∙◌}
 use Rattle.colour.specs.declared.Palette.{Palette}
-use Rattle.engine.specs.Painted.{Op, plotted}
+use Rattle.engine.specs.Painted.{Op}
 use Rattle.engine.specs.Fed.{Stage}
 use Rattle.engine.proofs.Laws.{fed_grew, painted_length}
 use Rattle.complete.specs.declared.part.Part.{Part}

@@ -1,16 +1,15 @@
 -- A job's calls as the parts of a drawing.
-use Rattle.std.proofs.Common.{◌≡◌, ℕ, ◌+◌, ◌-◌, ◌<◌, ◌≤◌, min, Bool, true, false, cond, not, ◌&&◌, eqb, ltb, leb, List, map, length, sym, refl, ap, ◌∙◌, add-zero, arith}
-use Rattle.std.proofs.lemmas.Bool.{cond-true, cond-false, ltb-false, leb-true}
+use Rattle.std.proofs.Common.{◌≡◌, ℕ, Bool, true, false, cond, not, ◌&&◌, ltb, leb, List, sym, refl, ap, ◌∙◌, add-zero, arith}
+use Rattle.std.proofs.lemmas.Bool.{cond-true, cond-false, ltb-false}
 use Rattle.std.proofs.lemmas.Bool.Decides.{nat_tests}
 use Rattle.colour.specs.declared.Palette.{Palette}
 use Rattle.window.specs.Places.{pixels}
-use Rattle.source.specs.Origins.{awaited}
-use Rattle.engine.specs.Painted.{Op, plotted, painted}
-use Rattle.engine.specs.Fed.{Stage, fed, takes}
+use Rattle.engine.specs.Painted.{Op, painted}
+use Rattle.engine.specs.Fed.{Stage, fed}
 use Rattle.engine.proofs.Feeding.{fed_ended}
-use Rattle.complete.specs.Parts.{Portion, feed, run, by_memory, advanced, allowed, stepped}
+use Rattle.complete.specs.Parts.{feed, run, by_memory, advanced, allowed, stepped}
 use Rattle.job.specs.Plans.{op_at}
-use Rattle.job.specs.Works.{Work, serves, awaits, runs, left, stage_of, at_stage, fed_stage, feed_after, run_stage, run_after}
+use Rattle.job.specs.Works.{Work, serves, awaits, runs, stage_of, fed_stage, feed_after, run_stage, run_after}
 
 -- past the last pixel an allowance draws nothing
 pub advanced_none : (o : Op) (p : Palette) (s : Stage) → advanced o p s 0 ≡ s

@@ -1,5 +1,5 @@
 -- Settings of an exclusive or give an operation that is one.
-use Rattle.std.proofs.Common.{◌≡◌, ℕ, ◌≤◌, Bool, true, false, cond, ◌||◌, eqb, List, sym, refl, ap, ◌∙◌, subst, arith}
+use Rattle.std.proofs.Common.{◌≡◌, ℕ, ◌≤◌, Bool, true, false, ◌||◌, List, sym, ap, ◌∙◌, subst, arith}
 use Rattle.std.proofs.lemmas.Bool.{cond-true, cond-false}
 use Rattle.std.proofs.lemmas.Bool.Decides.{nat_tests}
 use Rattle.colour.specs.Formats.{Narrows}
@@ -8,11 +8,10 @@ use Rattle.formats.specs.declared.Depth.TheVariants.{Rgb332, Rgb565, Rgb888}
 use Rattle.formats.specs.Depths.{depth_format, depth_narrow}
 use Rattle.formats.specs.OverlayKinds.{overlay_format}
 use Rattle.formats.specs.Laws.{narrows332, narrows565, narrows888}
-use Rattle.rules.specs.declared.chosen.Rule.{Rule}
 use Rattle.rules.specs.declared.chosen.Rule.TheVariants as rule
 use Rattle.rules.specs.Chosen.{rule_yields}
 use Rattle.rules.specs.Yields.{raster_yields}
-use Rattle.source.specs.Origins.{Origin, image, unused}
+use Rattle.source.specs.Origins.{image}
 use Rattle.complete.specs.Complete.{Way}
 use Rattle.complete.specs.Undo.{IsExclusiveOr}
 use Rattle.complete.specs.Laws.{Undone}

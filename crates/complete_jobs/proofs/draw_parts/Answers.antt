@@ -1,4 +1,4 @@
-use Rattle.std.proofs.Common.{◌≡◌, leb, ap, ◌∙◌}
+use Rattle.std.proofs.Common.{leb, ap, ◌∙◌}
 use Rattle.window.specs.Places.{pixels}
 use Rattle.job.specs.Works.{work_of}
 use Rattle.complete_jobs.proofs.Parting.{one_part_more, all_parts}

@@ -1,4 +1,3 @@
-use Rattle.std.proofs.Common.{map}
 use Rattle.job.specs.Works.{work_of}
 use Rattle.complete_jobs.proofs.Parting.{Parting}
 use Rattle.complete_jobs.proofs.draw_parts.Given as goal

@@ -1,5 +1,4 @@
-use Rattle.std.proofs.Common.{◌≡◌, sym, ap, ◌∙◌}
-use Rattle.engine.specs.Fed.{Stage}
+use Rattle.std.proofs.Common.{sym, ap, ◌∙◌}
 use Rattle.complete.specs.Parts.{portion_of, stepped}
 use Rattle.job.specs.Plans.{op_at}
 use Rattle.job.specs.Works.{work_of, stage_of, at_stage}

@@ -1,4 +1,4 @@
-use Rattle.std.proofs.Common.{true, leb, length, ap, ◌∙◌}
+use Rattle.std.proofs.Common.{true, length, ap, ◌∙◌}
 use Rattle.complete.proofs.Completing.{Owed}
 use Rattle.job.specs.Works.{work_of, cleared, clearing}
 use Rattle.complete_jobs.specs.Ways.{way_of}
