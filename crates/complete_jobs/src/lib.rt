@@ -78,7 +78,7 @@ impl CompleteOperation for PartedJob<'_, '_> {
     }
 }
 
-// Draws what settings mean in one way, as a job or on a panel, and again in another.
+// Draws what settings mean in one way, as a job does, and again in another.
 pub fn settings_twice<V: CompleteOperation, W: CompleteOperation, M: Memory>(
     operation: &V,
     again: &W,

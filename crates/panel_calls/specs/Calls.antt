@@ -1,7 +1,7 @@
 -- Calls as plain values.
 use Rattle.std.specs.Prelude.{ℕ, List}
-use Rattle.calls.specs.declared.Call as code
-use Rattle.calls.specs.declared.Call.TheVariants as variant
+use Rattle.panel_calls.specs.declared.Call as code
+use Rattle.panel_calls.specs.declared.Call.TheVariants as variant
 
 -- a call with its values, the bytes of a burst as a list
 pub data Call : Type 0 where

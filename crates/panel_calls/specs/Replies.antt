@@ -1,8 +1,8 @@
 -- Answers as plain values, each refusal by its number.
 use Rattle.std.specs.Prelude.{ℕ, Result}
 use Rattle.refusal.specs.Numbers.{numbered}
-use Rattle.calls.specs.declared.Answer.{Answer}
-use Rattle.calls.specs.declared.Answer.TheVariants as variant
+use Rattle.panel_calls.specs.declared.Answer.{Answer}
+use Rattle.panel_calls.specs.declared.Answer.TheVariants as variant
 
 -- what each call answers; a burst the bytes taken and the pixels drawn
 pub data Reply : Type 0 where
