@@ -27,7 +27,7 @@ OrderHidden a b b' a' m m' complete n n' =
 abbrev pub Undone : Way → Way → List ℕ → Bool → List ℕ → Type 0
 Undone a a' m complete n = Same a a' → IsExclusiveOr a.operation → SourceApart a.operation → complete ≡ true → n ≡ m
 
--- the same of complete operations however they were drawn, on a panel that had drawn others before, say: a led from m
+-- the same of complete operations however they were drawn: a led from m
 -- to l and b from l to n, and b again from m to l' and a again from there to n'
 abbrev pub OrderDoesNotShow : Type 0
 OrderDoesNotShow =

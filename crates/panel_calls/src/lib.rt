@@ -1,5 +1,5 @@
 #![tactic(auto)]
-// The seven calls of a panel as values, and what each answers.
+// The calls of a panel as values, with the burst that is to come, and what each answers.
 use refusal::Refusal;
 
 #[derive(Clone, Copy)]
