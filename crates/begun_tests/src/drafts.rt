@@ -1,9 +1,9 @@
 // A draft that was declined comes back as it was.
-use crate::settings::{pixel, surface};
 use colour::Palette;
 use job::{Declined, Draft, Settings, Surface};
 use memory::{ByteBoard, Memory};
 use refusal::Refusal;
+use samples::{settings, surface};
 
 // The grounds against a draft over one memory, and then over another.
 fn grounds<M: Memory>(draft: Draft, memory: &M, other: &M) -> [u8; 2] {
@@ -27,12 +27,12 @@ fn declined_again(rt: HostRuntime) {
     let small = ByteBoard::new(&mut block);
     let mut block = [0u8; 2];
     let large = ByteBoard::new(&mut block);
-    let no_such = Draft::new(pixel(13));
+    let no_such = Draft::new(settings(13, 0, 8));
     assert_eq!(rt; grounds(no_such, &small, &large), [3, 3]);
-    let target = surface(1);
+    let target = surface(1, 0, 8);
     let past = Settings {
         target,
-        ..pixel(12)
+        ..settings(12, 0, 8)
     };
     assert_eq!(rt; grounds(Draft::new(past), &small, &small), [8, 8]);
     assert_eq!(rt; grounds(Draft::new(past), &small, &large), [8, 0]);
@@ -40,16 +40,11 @@ fn declined_again(rt: HostRuntime) {
 
 // Runs a job that a draft came back from one memory for, over another.
 fn draw_after<M: Memory>(draft: Draft, memory: &M, other: &mut M) -> Result<u32, Refusal> {
-    match draft.clear(memory) {
-        Ok(_) => Ok(0),
-        Err(declined) => {
-            let Declined { draft, refusal: _ } = declined;
-            match draft.clear(other) {
-                Ok(cleared) => cleared.begin().run(other, &Palette::new(), 9),
-                Err(again) => Err(again.refusal),
-            }
-        }
-    }
+    let Err(declined) = draft.clear(memory) else {
+        return Ok(0);
+    };
+    let Declined { draft, refusal: _ } = declined;
+    draft.clear(other)?.begin().run(other, &Palette::new(), 9)
 }
 
 // A copy of three pixels one to the right is declined over three bytes, and draws over four just as it was drafted.
@@ -62,13 +57,13 @@ fn declined_and_drawn(rt: HostRuntime) {
     let target = Surface {
         left: 1,
         image: 4,
-        ..surface(0)
+        ..surface(0, 0, 8)
     };
     let copy = Settings {
         code: 12,
         target,
         width: 3,
-        ..pixel(2)
+        ..settings(2, 0, 8)
     };
     let answer = draw_after(Draft::new(copy), &small, &mut large);
     assert_eq!(rt; answer, Ok(3));

@@ -5,5 +5,3 @@
 mod drafts;
 #[cfg(test)]
 mod memories;
-#[cfg(test)]
-mod settings;

@@ -1,28 +1,17 @@
 // Refusals 8, 9 and 10 of a job that was begun.
-use crate::settings::{pixel, surface};
-use colour::{Colour, Palette};
-use job::{Begun, Draft, Settings};
-use memory::{ByteBoard, Memory};
+use colour::Palette;
+use job::Settings;
+use memory::ByteBoard;
 use refusal::Refusal;
+use samples::{begin, rgb, settings, surface};
 use std::test::Fail;
-
-fn begin<M: Memory>(memory: &M, settings: Settings) -> Result<Begun, Refusal> {
-    match Draft::new(settings).clear(memory) {
-        Ok(cleared) => Ok(cleared.begin()),
-        Err(declined) => Err(declined.refusal),
-    }
-}
 
 // A fill of two pixels, which white makes FFh.
 fn fill() -> Settings {
     Settings {
         width: 2,
-        foreground: Colour {
-            red: 255,
-            green: 255,
-            blue: 255,
-        },
-        ..pixel(12)
+        foreground: rgb(255, 255, 255),
+        ..settings(12, 0, 8)
     }
 }
 
@@ -30,8 +19,8 @@ fn fill() -> Settings {
 fn host() -> Settings {
     Settings {
         code: 12,
-        first: surface(1),
-        ..pixel(0)
+        first: surface(1, 0, 8),
+        ..settings(0, 0, 8)
     }
 }
 

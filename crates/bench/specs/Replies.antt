@@ -1,8 +1,7 @@
 -- What the bench answers to a call, and what the call leaves.
 use Rattle.std.specs.Prelude.{ℕ, Some, None, Ok, Err, Option, Result}
 use Rattle.memory.specs.Bytes.{read_at}
-use Rattle.panel.specs.State as panel
-use Rattle.panel.specs.State.{State, answer_of, after_of, written, register_read, run_answer, run_after, stop_answer, status_of, with_doing}
+use Rattle.panel.specs.State.{State, answer_of, after_of, written, register_read, run_answer, run_after, stop_answer, stopped, status_of}
 use Rattle.bench_lines.specs.Answers.{Reply}
 use Rattle.bench_lines.specs.Answers as reply
 use Rattle.bench_lines.specs.Commands.{Call}
@@ -34,7 +33,7 @@ call_after s (call.write r v) = after_of s (written s r v)
 call_after s (call.read r) = s
 call_after s (call.burst _) = s
 call_after s (call.run n) = run_after s s.doing n
-call_after s call.stop = with_doing s panel.idle
+call_after s call.stop = stopped s
 call_after s call.status = s
 call_after s (call.memory a) = s
 

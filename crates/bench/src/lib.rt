@@ -1,46 +1,18 @@
 // The bench: lines in, panel calls, lines out.
 #![tactic(auto)]
 
-ghost use Rattle.std.specs.Prelude.{◌≡◌, ℕ, ◌<◌, ◌≤◌, List, [], ◌∷◌, ◌++◌, replicate, OnOk};
-ghost use Rattle.refusal.specs.Numbers.{numbered};
+ghost use Rattle.std.specs.Prelude.{◌≡◌, ◌==◌, position, ℕ, ◌<◌, ◌≤◌, List, [], ◌∷◌, ◌++◌, replicate, OnOk};
+ghost use Rattle.std.specs.Iterator.{YieldsFirstRef, item_count};
 ghost use Rattle.panel.specs.State.{seen, fresh};
 ghost use Rattle.bench_lines.specs.Commands.{call_of, command_of};
 ghost use Rattle.bench_lines.specs.Answers.{reply_of};
-ghost use Rattle.bench.specs.Replies.{done_reply, count_reply, byte_reply, call_reply, call_after, line_reply, line_after};
+ghost use Rattle.bench.specs.Replies.{call_reply, call_after, line_reply, line_after};
 ghost use Rattle.bench.specs.Scripts.{lines, transcript, Replayed};
 
 use bench_lines::{Answer, Command};
 use memory::{ByteBoard, Memory};
 use panel::Panel;
-use refusal::Refusal;
 use std::alloc::AllocError;
-
-fn done(res: Result<(), Refusal>) -> Answer
-    ensures { reply_of result ≡ done_reply (numbered res) }
-{
-    match res {
-        Ok(()) => Answer::Done,
-        Err(refusal) => Answer::Refused(refusal),
-    }
-}
-
-fn count(res: Result<u32, Refusal>) -> Answer
-    ensures { reply_of result ≡ count_reply (numbered res) }
-{
-    match res {
-        Ok(pixels) => Answer::Count(pixels),
-        Err(refusal) => Answer::Refused(refusal),
-    }
-}
-
-fn byte(res: Result<u8, Refusal>) -> Answer
-    ensures { reply_of result ≡ byte_reply (numbered res) }
-{
-    match res {
-        Ok(value) => Answer::Byte(value),
-        Err(refusal) => Answer::Refused(refusal),
-    }
-}
 
 // Makes the call that a command is. A burst is not built yet, and its line counts as malformed.
 fn perform<M: Memory>(panel: &mut Panel<M>, command: Command) -> Answer
@@ -48,13 +20,21 @@ fn perform<M: Memory>(panel: &mut Panel<M>, command: Command) -> Answer
     ensures after { seen M.bytes panel.new ≡ call_after (seen M.bytes panel.old) (call_of command) }
 {
     match command {
-        Command::Write { register, value } => done(panel.write(register, value)),
-        Command::Read { register } => byte(panel.read(register)),
+        Command::Write { register, value } => panel
+            .write(register, value)
+            .map_or_else(Answer::Refused, |()| Answer::Done),
+        Command::Read { register } => panel
+            .read(register)
+            .map_or_else(Answer::Refused, Answer::Byte),
         Command::Burst(_) => Answer::Malformed,
-        Command::Run { pixels } => count(panel.run(pixels as u32)),
-        Command::Stop => count(panel.stop()),
+        Command::Run { pixels } => panel
+            .run(u32::from(pixels))
+            .map_or_else(Answer::Refused, Answer::Count),
+        Command::Stop => panel.stop().map_or_else(Answer::Refused, Answer::Count),
         Command::Status => Answer::Byte(panel.status()),
-        Command::Memory { address } => byte(panel.memory_read(address)),
+        Command::Memory { address } => panel
+            .memory_read(address)
+            .map_or_else(Answer::Refused, Answer::Byte),
     }
 }
 
@@ -69,6 +49,31 @@ pub fn respond<M: Memory>(panel: &mut Panel<M>, line: &[u8]) -> Answer
     }
 }
 
+fn line_end(text: &[u8]) -> Option<usize>
+    ensures { result ≡ position (λ c. c == 10) text.now }
+{
+    text.iter().position(|c| *c == b'\n')
+}
+
+// The lines of an input, each without its line feed. What stands after the last line feed is no line.
+#[derive(Drop)]
+struct Lines<'a>(&'a [u8]);
+
+impl<'a> Iterator for Lines<'a> {
+    type Item = &'a [u8];
+
+    ghost next_gives = { YieldsFirstRef (λ s. lines s.0.now) };
+
+    ghost remaining = { item_count (λ s. lines s.0.now) };
+
+    fn next(&mut self) -> Option<&'a [u8]> {
+        let end = line_end(self.0)?;
+        let line = &self.0[..end];
+        self.0 = &self.0[end + 1..];
+        Some(line)
+    }
+}
+
 // Obeys every line of an input and writes its answers. It fails only for want of memory for them.
 pub fn replay<M: Memory>(
     panel: &mut Panel<M>,
@@ -77,12 +82,8 @@ pub fn replay<M: Memory>(
 ) -> Result<(), AllocError>
     ensures { OnOk result (Replayed (seen M.bytes panel.old) (lines input.now) out.old.items (seen M.bytes panel.new) out.new.items) }
 {
-    let mut start = 0;
-    for i in 0..input.len() {
-        if input[i] == b'\n' {
-            respond(panel, &input[start..i]).write_to(out)?;
-            start = i + 1;
-        }
+    for line in Lines(input) {
+        respond(panel, line).write_to(out)?;
     }
     Ok(())
 }

@@ -3,48 +3,31 @@ use Rattle.std.proofs.Common.{◌≡◌, ℕ, ◌+◌, ◌-◌, ◌*◌, ◌/◌
 use Rattle.std.proofs.lemmas.List.{get_or-drop, drop-drop}
 use Rattle.bench_lines.proofs.Bursts.{burst_shaped}
 use Rattle.std.specs.List.{flat_map, AllByRecursion}
-use Rattle.bench_lines.specs.Digits.{both_of, byte_at}
 use Rattle.bench_lines.specs.Answers.{digit, hex_byte}
-use Rattle.bench_lines.specs.Commands.{Call, write, read, burst, run, stop, status, memory, command_of, bytes_at, as_burst, with_first}
+use Rattle.bench_lines.specs.Commands.{Call, write, read, burst, run, stop, status, memory, command_of, as_burst, with_first, bytes_at}
 use Rattle.bench_lines.specs.Spelling.{spelled, Sayable}
 use Rattle.bench_lines.proofs.Fields.{byte_reads}
 
 write_back : (r v : ℕ) → r < 256 → v < 256 → command_of (spelled (write r v)) ≡ Some (write r v)
 write_back r v h k =
     let x = byte_reads (spelled (write r v)) 2 r h refl refl in
-    let y = byte_reads (spelled (write r v)) 5 v k refl refl in
-    ap (λ o. both_of write o (byte_at (spelled (write r v)) 5)) x ∙ ap (both_of write (Some r)) y
+    let y = byte_reads (spelled (write r v)) 5 v k refl refl in grind arith
 
 read_back : (r : ℕ) → r < 256 → command_of (spelled (read r)) ≡ Some (read r)
-read_back r h = ap (λ o. both_of (λ r _. read r) o (Some 0)) (byte_reads (spelled (read r)) 2 r h refl refl)
+read_back r h = let x = byte_reads (spelled (read r)) 2 r h refl refl in grind arith
 
 run_back : (n : ℕ) → n < 65536 → command_of (spelled (run n)) ≡ Some (run n)
 run_back n h =
     let l = spelled (run n) in
-    let d₃ : n / 4096 % 16 ≡ n / 256 / 16 % 16 = omega arith in
-    let d₁ : n / 16 % 16 ≡ n % 256 / 16 % 16 = omega arith in
-    let d₀ : n % 16 ≡ n % 256 % 16 = omega arith in
-    let x = byte_reads l 2 (n / 256) (omega arith) (ap digit d₃) refl in
-    let y = byte_reads l 4 (n % 256) (omega arith) (ap digit d₁) (ap digit d₀) in
-    let whole : n / 256 * 256 + n % 256 ≡ n = omega arith in
-    ap (λ o. both_of (λ h d. run (h * 256 + d)) o (byte_at l 4)) x
-    ∙ ap (both_of (λ h d. run (h * 256 + d)) (Some (n / 256))) y ∙ ap (λ n. Some (run n)) whole
+    let x = byte_reads l 2 (n / 256) (omega arith) (grind arith) refl in
+    let y = byte_reads l 4 (n % 256) (omega arith) (grind arith) (grind arith) in grind arith
 
 memory_back : (n : ℕ) → n < 16777216 → command_of (spelled (memory n)) ≡ Some (memory n)
 memory_back n h =
     let l = spelled (memory n) in
-    let d₃ : n / 4096 % 16 ≡ n / 256 % 256 / 16 % 16 = omega arith in
-    let d₂ : n / 256 % 16 ≡ n / 256 % 256 % 16 = omega arith in
-    let d₁ : n / 16 % 16 ≡ n % 256 / 16 % 16 = omega arith in
-    let d₀ : n % 16 ≡ n % 256 % 16 = omega arith in
     let x = byte_reads l 2 (n / 65536) (omega arith) refl refl in
-    let y = byte_reads l 4 (n / 256 % 256) (omega arith) (ap digit d₃) (ap digit d₂) in
-    let z = byte_reads l 6 (n % 256) (omega arith) (ap digit d₁) (ap digit d₀) in
-    let whole : (n / 65536 * 256 + n / 256 % 256) * 256 + n % 256 ≡ n = omega arith in
-    ap (λ o. both_of (λ h d. memory (h * 256 + d)) (both_of (λ h d. h * 256 + d) o (byte_at l 4)) (byte_at l 6)) x
-    ∙ ap (λ o. both_of (λ h d. memory (h * 256 + d)) (both_of (λ h d. h * 256 + d) (Some (n / 65536)) o) (byte_at l 6)) y
-    ∙ ap (both_of (λ h d. memory (h * 256 + d)) (Some (n / 65536 * 256 + n / 256 % 256))) z
-    ∙ ap (λ n. Some (memory n)) whole
+    let y = byte_reads l 4 (n / 256 % 256) (omega arith) (grind arith) (grind arith) in
+    let z = byte_reads l 6 (n % 256) (omega arith) (grind arith) (grind arith) in grind arith
 
 -- the bytes that the digits from a place on spell
 bytes_back : (l : List ℕ) (k : ℕ) (bs : List ℕ) → AllByRecursion (λ b. b < 256) bs → drop k l ≡ flat_map hex_byte bs → bytes_at l k (length bs) ≡ Some bs

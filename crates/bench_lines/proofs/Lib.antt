@@ -1,3 +1,4 @@
+pub mod Printed
 pub mod Bursts
 pub mod Fields
 pub mod Complete

@@ -1,28 +1,34 @@
 -- A line that is a command is the spelling of that command.
-use Rattle.std.proofs.Common.{◌≡◌, ℕ, zero, suc, ◌+◌, ◌-◌, ◌*◌, ◌/◌, ◌%◌, ◌<◌, true, cond, ◌&&◌, eqb, leb, ◌⊎◌, List, [], ◌∷◌, ◌++◌, length, get_or, drop, Some, None, Option, sym, refl, ap, ◌∙◌, subst, inl, inr, ⊎_elim, arith}
+use Rattle.std.proofs.Common.{◌≡◌, ℕ, Bool, zero, suc, ◌+◌, ◌-◌, ◌*◌, ◌/◌, ◌%◌, ◌<◌, ◌≤◌, true, cond, ◌&&◌, eqb, leb, ◌⊎◌, List, [], ◌∷◌, length, get_or, drop, Some, None, Option, sym, refl, ap, ◌∙◌, subst, inl, inr, ⊎_elim, arith}
 use Rattle.std.specs.List.{flat_map, AllByRecursion}
-use Rattle.std.proofs.lemmas.Bool.{eqb-true, leb-true, and_parts, cases_Bool, cond-true, cond-false}
+use Rattle.std.proofs.lemmas.Bool.{eqb-true, and_parts, cases_Bool, cond-true, cond-false}
+use Rattle.std.proofs.lemmas.Bool.Decides.{nat_tests}
 use Rattle.std.proofs.lemmas.List.{drop_more, drop_all}
+use Rattle.std.proofs.lemmas.Option.{none-some}
 use Rattle.bench_lines.specs.Digits.{both_of, byte_at, spaced}
 use Rattle.bench_lines.specs.Answers.{hex_byte}
-use Rattle.bench_lines.specs.Commands.{Call, write, read, burst, run, stop, status, memory, command_of, bytes_at, as_burst, with_first, write_line, read_register, run_line, memory_line, burst_line, alone}
+use Rattle.bench_lines.specs.Commands.{Call, write, read, burst, run, stop, status, memory, command_of, as_burst, write_line, read_register, run_line, memory_line, burst_line, alone, with_first, bytes_at}
 use Rattle.bench_lines.specs.Spelling.{spelled, Sayable}
-use Rattle.bench_lines.proofs.Fields.{none_some, cond_some, both_some, space_spelled, byte_spelled, count_bytes, address_bytes}
+use Rattle.bench_lines.proofs.Fields.{cond_some, both_some, space_spelled, byte_spelled, count_bytes, address_bytes}
 
 -- a line is a call's spelling, and the call can be written
 abbrev pub Spells : List ℕ → Call → Type 0
 Spells l c = (l ≡ spelled c) × Sayable c
+
+-- the length and the spaces of a line that is a command, and what its fields give
+shaped : (l : List ℕ) (n : ℕ) (s : Bool) (o : Option Call) (c : Call) → cond (eqb (length l) n && s) o None ≡ Some c → (length l ≡ n) × (s ≡ true) × (o ≡ Some c)
+shaped l n s o c e =
+    let p = cond_some (eqb (length l) n && s) o c e in
+    (grind (arith, nat_tests), grind (arith, nat_tests), p.1)
 
 letter : (l : List ℕ) (x : ℕ) → 0 < length l → get_or l 0 0 ≡ x → l ≡ x ∷ drop 1 l
 letter l x h e = drop_more l 0 0 h ∙ ap (λ y. y ∷ drop 1 l) e
 
 write_only : (l : List ℕ) (c : Call) → get_or l 0 0 ≡ 87 → write_line l ≡ Some c → Spells l c
 write_only l c w e =
-    let p = cond_some (eqb (length l) 7 && (spaced l 1 && spaced l 4)) (both_of write (byte_at l 2) (byte_at l 5)) c e in
-    let t = and_parts (eqb (length l) 7) (spaced l 1 && spaced l 4) p.0 in
-    let s = and_parts (spaced l 1) (spaced l 4) t.1 in
-    let n = eqb-true (length l) 7 t.0 in
-    let q = both_some write (byte_at l 2) (byte_at l 5) c p.1 in
+    let p = shaped l 7 (spaced l 1 && spaced l 4) (both_of write (byte_at l 2) (byte_at l 5)) c e in
+    let s = and_parts (spaced l 1) (spaced l 4) p.1 in
+    let q = both_some write (byte_at l 2) (byte_at l 5) c p.2 in
     let x = byte_spelled l 2 q.0 (omega arith) q.2 in
     let y = byte_spelled l 5 q.1 (omega arith) q.3 in
     let first = letter l 87 (omega arith) w in
@@ -34,13 +40,11 @@ write_only l c w e =
 
 read_only : (l : List ℕ) (c : Call) → get_or l 0 0 ≡ 82 → read_register l ≡ Some c → Spells l c
 read_only l c w e =
-    let p = cond_some (eqb (length l) 4 && spaced l 1) (both_of (λ r _. read r) (byte_at l 2) (Some 0)) c e in
-    let t = and_parts (eqb (length l) 4) (spaced l 1) p.0 in
-    let n = eqb-true (length l) 4 t.0 in
-    let q = both_some (λ r _. read r) (byte_at l 2) (Some 0) c p.1 in
+    let p = shaped l 4 (spaced l 1) (both_of (λ r _. read r) (byte_at l 2) (Some 0)) c e in
+    let q = both_some (λ r _. read r) (byte_at l 2) (Some 0) c p.2 in
     let x = byte_spelled l 2 q.0 (omega arith) q.2 in
     let first = letter l 82 (omega arith) w in
-    let gap = space_spelled l 1 (omega arith) t.1 in
+    let gap = space_spelled l 1 (omega arith) p.1 in
     let end = drop_all 4 l (omega arith) in
     let whole : l ≡ spelled (read q.0) = cc in
     subst (Spells l) q.4 (whole, x.1)
@@ -57,54 +61,42 @@ alone_only l c d x w e s k =
 
 run_only : (l : List ℕ) (c : Call) → get_or l 0 0 ≡ 71 → run_line l ≡ Some c → Spells l c
 run_only l c w e =
-    let p = cond_some (eqb (length l) 6 && spaced l 1) (both_of (λ h d. run (h * 256 + d)) (byte_at l 2) (byte_at l 4)) c e in
-    let t = and_parts (eqb (length l) 6) (spaced l 1) p.0 in
-    let n = eqb-true (length l) 6 t.0 in
-    let q = both_some (λ h d. run (h * 256 + d)) (byte_at l 2) (byte_at l 4) c p.1 in
+    let p = shaped l 6 (spaced l 1) (both_of (λ h d. run (h * 256 + d)) (byte_at l 2) (byte_at l 4)) c e in
+    let q = both_some (λ h d. run (h * 256 + d)) (byte_at l 2) (byte_at l 4) c p.2 in
     let x = byte_spelled l 2 q.0 (omega arith) q.2 in
     let y = byte_spelled l 4 q.1 (omega arith) q.3 in
     let first = letter l 71 (omega arith) w in
-    let gap = space_spelled l 1 (omega arith) t.1 in
+    let gap = space_spelled l 1 (omega arith) p.1 in
     let end = drop_all 6 l (omega arith) in
-    let body = x.0 ∙ ap (λ t. hex_byte q.0 ++ t) (y.0 ∙ ap (λ t. hex_byte q.1 ++ t) end) in
-    let tail = gap ∙ ap (λ t. 32 ∷ t) (body ∙ sym (count_bytes q.0 q.1 x.1 y.1)) in
-    subst (Spells l) q.4 (first ∙ ap (λ t. 71 ∷ t) tail, omega arith)
-
-memory_spelled : (l : List ℕ) (h m d : ℕ) → length l ≡ 8 → get_or l 0 0 ≡ 77 → spaced l 1 ≡ true
-    → byte_at l 2 ≡ Some h → byte_at l 4 ≡ Some m → byte_at l 6 ≡ Some d → Spells l (memory ((h * 256 + m) * 256 + d))
-memory_spelled l h m d n w s i j k =
-    let x = byte_spelled l 2 h (omega arith) i in
-    let y = byte_spelled l 4 m (omega arith) j in
-    let z = byte_spelled l 6 d (omega arith) k in
-    let first = letter l 77 (omega arith) w in
-    let gap = space_spelled l 1 (omega arith) s in
-    let end = drop_all 8 l (omega arith) in
-    let body = x.0 ∙ ap (λ t. hex_byte h ++ t) (y.0 ∙ ap (λ t. hex_byte m ++ t) (z.0 ∙ ap (λ t. hex_byte d ++ t) end)) in
-    let tail = gap ∙ ap (λ t. 32 ∷ t) (body ∙ sym (address_bytes h m d x.1 y.1 z.1)) in
-    (first ∙ ap (λ t. 77 ∷ t) tail, omega arith)
-
-memory_halves : (l : List ℕ) (h d : ℕ) → length l ≡ 8 → get_or l 0 0 ≡ 77 → spaced l 1 ≡ true
-    → both_of (λ h d. h * 256 + d) (byte_at l 2) (byte_at l 4) ≡ Some h → byte_at l 6 ≡ Some d → Spells l (memory (h * 256 + d))
-memory_halves l h d n w s i k =
-    let m = both_some (λ h d. h * 256 + d) (byte_at l 2) (byte_at l 4) h i in
-    subst (λ h. Spells l (memory (h * 256 + d))) m.4 (memory_spelled l m.0 m.1 d n w s m.2 m.3 k)
+    let digits = count_bytes q.0 q.1 x.1 y.1 in
+    let whole : l ≡ spelled (run (q.0 * 256 + q.1)) = cc in
+    subst (Spells l) q.4 (whole, omega arith)
 
 memory_only : (l : List ℕ) (c : Call) → get_or l 0 0 ≡ 77 → memory_line l ≡ Some c → Spells l c
 memory_only l c w e =
     let both = both_of (λ h d. h * 256 + d) (byte_at l 2) (byte_at l 4) in
-    let p = cond_some (eqb (length l) 8 && spaced l 1) (both_of (λ h d. memory (h * 256 + d)) both (byte_at l 6)) c e in
-    let t = and_parts (eqb (length l) 8) (spaced l 1) p.0 in
-    let q = both_some (λ h d. memory (h * 256 + d)) both (byte_at l 6) c p.1 in
-    subst (Spells l) q.4 (memory_halves l q.0 q.1 (eqb-true (length l) 8 t.0) w t.1 q.2 q.3)
+    let p = shaped l 8 (spaced l 1) (both_of (λ h d. memory (h * 256 + d)) both (byte_at l 6)) c e in
+    let q = both_some (λ h d. memory (h * 256 + d)) both (byte_at l 6) c p.2 in
+    let m = both_some (λ h d. h * 256 + d) (byte_at l 2) (byte_at l 4) q.0 q.2 in
+    let x = byte_spelled l 2 m.0 (omega arith) m.2 in
+    let y = byte_spelled l 4 m.1 (omega arith) m.3 in
+    let z = byte_spelled l 6 q.1 (omega arith) q.3 in
+    let first = letter l 77 (omega arith) w in
+    let gap = space_spelled l 1 (omega arith) p.1 in
+    let end = drop_all 8 l (omega arith) in
+    let digits = address_bytes m.0 m.1 q.1 x.1 y.1 z.1 in
+    let whole : l ≡ spelled (memory ((m.0 * 256 + m.1) * 256 + q.1)) = cc in
+    let is : memory ((m.0 * 256 + m.1) * 256 + q.1) ≡ c = ap (λ h. memory (h * 256 + q.1)) m.4 ∙ q.4 in
+    subst (Spells l) is (whole, omega arith)
 
 first_some : (x : Option ℕ) (o : Option (List ℕ)) (bs : List ℕ) → with_first x o ≡ Some bs
     → (b : ℕ) × (rest : List ℕ) × (x ≡ Some b) × (o ≡ Some rest) × (b ∷ rest ≡ bs)
-first_some None o bs e = absurd (none_some bs e)
-first_some (Some b) None bs e = absurd (none_some bs e)
+first_some None o bs e = absurd (none-some bs e)
+first_some (Some b) None bs e = absurd (none-some bs e)
 first_some (Some b) (Some rest) bs e = (b, rest, refl, refl, cc)
 
 burst_some : (o : Option (List ℕ)) (c : Call) → as_burst o ≡ Some c → (bs : List ℕ) × (o ≡ Some bs) × (burst bs ≡ c)
-burst_some None c e = absurd (none_some c e)
+burst_some None c e = absurd (none-some c e)
 burst_some (Some bs) c e = (bs, refl, cc)
 
 -- the digits from a place on, n bytes of them, spell the bytes that were read there
@@ -126,16 +118,14 @@ burst_only : (l : List ℕ) (c : Call) → get_or l 0 0 ≡ 66 → burst_line l 
 burst_only l c w e =
     let n = (length l - 2) / 2 in
     let p = cond_some (leb 4 (length l) && (leb (length l) 66 && (eqb (length l % 2) 0 && spaced l 1))) (as_burst (bytes_at l 2 n)) c e in
-    let t = and_parts (leb 4 (length l)) (leb (length l) 66 && (eqb (length l % 2) 0 && spaced l 1)) p.0 in
-    let u = and_parts (leb (length l) 66) (eqb (length l % 2) 0 && spaced l 1) t.1 in
-    let v = and_parts (eqb (length l % 2) 0) (spaced l 1) u.1 in
-    let least = leb-true 4 (length l) t.0 in
-    let most = leb-true (length l) 66 u.0 in
-    let even = eqb-true (length l % 2) 0 v.0 in
+    let least : 4 ≤ length l = grind (arith, nat_tests) in
+    let most : length l ≤ 66 = grind (arith, nat_tests) in
+    let even : length l % 2 ≡ 0 = grind (arith, nat_tests) in
+    let s : spaced l 1 ≡ true = grind (arith, nat_tests) in
     let q = burst_some (bytes_at l 2 n) c p.1 in
     let d = bytes_only l 2 n q.0 (omega arith) q.1 in
     let first = letter l 66 (omega arith) w in
-    let gap = space_spelled l 1 (omega arith) v.1 in
+    let gap = space_spelled l 1 (omega arith) s in
     let whole : l ≡ spelled (burst q.0) = cc in
     subst (Spells l) q.2 (whole, (omega arith, omega arith, d.2))
 
@@ -152,6 +142,6 @@ spelled_only l c e₀ =
     ⊎_elim (λ p. run_only l c p.0 p.1) (λ e₄.
     ⊎_elim (λ p. alone_only l c stop 88 p.0 p.1 refl tt) (λ e₅.
     ⊎_elim (λ p. alone_only l c status 83 p.0 p.1 refl tt) (λ e₆.
-    ⊎_elim (λ p. memory_only l c p.0 p.1) (λ e₇. absurd (none_some c e₇))
+    ⊎_elim (λ p. memory_only l c p.0 p.1) (λ e₇. absurd (none-some c e₇))
     (choice x 77 _ _ c e₆)) (choice x 83 _ _ c e₅)) (choice x 88 _ _ c e₄)) (choice x 71 _ _ c e₃))
     (choice x 66 _ _ c e₂)) (choice x 82 _ _ c e₁)) (choice x 87 _ _ c e₀)

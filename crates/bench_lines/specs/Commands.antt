@@ -1,6 +1,5 @@
 -- Which command a line is.
-use Rattle.std.specs.Prelude.{ℕ, zero, suc, ◌+◌, ◌-◌, ◌*◌, ◌/◌, ◌%◌, min, cond, ◌&&◌, List, [], ◌∷◌, length, take, Some, None, Option, ◌==◌, nat_le, slice_index_or}
-use Rattle.bench_lines.specs.declared.command.Payload.{Payload}
+use Rattle.std.specs.Prelude.{ℕ, zero, suc, ◌+◌, ◌-◌, ◌*◌, ◌/◌, ◌%◌, cond, ◌&&◌, List, [], ◌∷◌, length, Some, None, Option, ◌==◌, nat_le, slice_index_or}
 use Rattle.bench_lines.specs.declared.command.Command.{Command}
 use Rattle.bench_lines.specs.declared.command.Command.TheVariants as command
 use Rattle.bench_lines.specs.Digits.{both_of, byte_at, spaced}
@@ -15,14 +14,10 @@ pub data Call : Type 0 where
   status : Call
   memory : ℕ → Call
 
--- the bytes of a burst line
-abbrev pub sent : Payload → List ℕ
-sent p = take (min 32 p.count) p.bytes
-
 abbrev pub call_of : Command → Call
 call_of (command.Write r v) = write r v
 call_of (command.Read r) = read r
-call_of (command.Burst p) = burst (sent p)
+call_of (command.Burst bs) = burst bs
 call_of (command.Run n) = run n
 call_of command.Stop = stop
 call_of command.Status = status

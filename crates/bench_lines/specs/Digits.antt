@@ -13,9 +13,13 @@ both_of f None y = None
 both_of f (Some a) None = None
 both_of f (Some a) (Some b) = Some (f a b)
 
+-- the byte that two digits spell
+abbrev pub byte_of : ℕ → ℕ → Option ℕ
+byte_of h d = both_of (λ h d. h * 16 + d) (digit_value h) (digit_value d)
+
 -- the byte that the two digits at a place spell; past the end stands 0, which is no digit
 abbrev pub byte_at : List ℕ → ℕ → Option ℕ
-byte_at l k = both_of (λ h d. h * 16 + d) (digit_value (slice_index l k)) (digit_value (slice_index l (k + 1)))
+byte_at l k = byte_of (slice_index l k) (slice_index l (k + 1))
 
 -- a space stands at a place
 abbrev pub spaced : List ℕ → ℕ → Bool

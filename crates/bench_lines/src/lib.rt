@@ -3,6 +3,9 @@
 
 mod answer;
 mod command;
+mod digits;
+mod payload;
 
 pub use answer::Answer;
-pub use command::{Command, Payload};
+pub use command::Command;
+pub use payload::Payload;

@@ -5,10 +5,18 @@ ghost use Rattle.std.specs.Prelude.{◌≡◌, ℕ, ◌+◌, ◌-◌, ◌*◌, �
 ghost use Rattle.blue_first.specs.Packed.{formatBgr, narrowBgr};
 ghost use Rattle.blue_first.specs.Laws.{narrowsBgr};
 
-use colour::{Canvas, Colour, FieldWidth, Palette, Readable};
+use colour::{Canvas, Colour, FieldWidth, Fields, Palette, Readable};
 
 #[derive(Clone, Copy, PartialEq, Eq, Debug)]
 pub struct Bgr565;
+
+impl Bgr565 {
+    const FIELDS: Fields = Fields {
+        high: FieldWidth::Five,
+        middle: FieldWidth::Six,
+        low: FieldWidth::Five,
+    };
+}
 
 impl Readable for Bgr565 {
     ghost format = { λ _. formatBgr };
@@ -18,11 +26,8 @@ impl Readable for Bgr565 {
     }
 
     fn colour(&self, _palette: &Palette, value: u32) -> Colour {
-        Colour {
-            red: FieldWidth::Five.widen((value % 32) as u8),
-            green: FieldWidth::Six.widen((value / 32 % 64) as u8),
-            blue: FieldWidth::Five.widen((value / 2048 % 32) as u8),
-        }
+        let (blue, green, red) = Bgr565::FIELDS.unpack(value);
+        Colour { red, green, blue }
     }
 }
 
@@ -32,9 +37,6 @@ impl Canvas for Bgr565 {
     ghost keeps = { λ _. narrowsBgr };
 
     fn narrow(&self, colour: Colour) -> u32 {
-        let red = FieldWidth::Five.narrow(colour.red) as u32;
-        let green = FieldWidth::Six.narrow(colour.green) as u32;
-        let blue = FieldWidth::Five.narrow(colour.blue) as u32;
-        (blue * 64 + green) * 32 + red
+        Bgr565::FIELDS.pack(colour.blue, colour.green, colour.red)
     }
 }

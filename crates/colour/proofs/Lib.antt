@@ -1,2 +1,3 @@
-pub mod Fields
+pub mod Bits
+pub mod Packing
 pub mod Xors

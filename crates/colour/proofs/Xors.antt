@@ -1,90 +1,45 @@
 -- The exclusive or, made of complements and ands: so narrowing keeps it too.
-use mathlib.Core.Path.{◌≡◌, refl, sym, ap, ◌∙◌}
-use Prim.Native.Nat.{ℕ, zero, suc, ◌<◌, ◌-◌, ◌+◌, ◌*◌, ◌/◌, ◌%◌, ◌^◌}
-use native.Mathlib.Omega.{arith}
-use lib.Pow.{pow-add}
-use lib.Bits.{bit_and, bit_xor, and_block, xor_block, and_lt, and_le_l, xor_lt, xor_assoc, xor_self, xor_zero_l}
-use native.Mathlib.Numerals.{add-one}
+use Rattle.std.proofs.Common.{◌≡◌, ℕ, ◌<◌, ◌*◌, ◌^◌, sym, ap, ◌∙◌, arith}
+use Rattle.std.specs.Int.{bit_at}
+use Rattle.std.proofs.lemmas.Nat.{and_le_l, xor_lt}
+use Rattle.std.proofs.lemmas.Nat.Bits.{bit_at_and, bit_at_xor, same_from_bits_below}
+use lib.Bits.{bit_and, bit_xor, and_lt, xor_assoc, xor_self, xor_zero_l}
 use Rattle.colour.specs.declared.Colour.{Colour}
 use Rattle.colour.specs.declared.Palette.{Palette}
-use Rattle.colour.specs.Channels.{Channels, rgb, both, complement, xored}
+use Rattle.colour.specs.Channels.{Channels, both, complement, xored}
 use Rattle.colour.specs.Formats.{Format, Narrows}
-
-abbrev comp : ℕ → ℕ → ℕ
-comp n x = 2 ^ n - 1 - x
+use Rattle.colour.proofs.Bits.{turned, turned_lt, turned_bit}
 
 abbrev made : ℕ → ℕ → ℕ → ℕ
-made n x y = comp n (bit_and (comp n (bit_and x (comp n y))) (comp n (bit_and (comp n x) y)))
+made n x y = turned n (bit_and (turned n (bit_and x (turned n y))) (turned n (bit_and (turned n x) y)))
 
--- x has the lowest bit r above which a stands
-record Split (n x a r : ℕ) : Type 0 where
-  is : x ≡ a * 2 + r
-  high : a < 2 ^ n
-  low : r < 2
+xor_made : (n x y : ℕ) → x < 2 ^ n → y < 2 ^ n → made n x y ≡ bit_xor x y
+xor_made n x y h k = same_from_bits_below n (made n x y) (bit_xor x y) (turned_lt n _) (xor_lt n x y h k) each
+  where
+    each : (i : ℕ) → i < n → bit_at (made n x y) i ≡ bit_at (bit_xor x y) i
+    each i l =
+        let y' = turned n y in
+        let x' = turned n x in
+        let left = bit_and x y' in
+        let right = bit_and x' y in
+        let left_lt = and_lt n x y' h (turned_lt n y) in
+        let right_lt = and_lt n x' y (turned_lt n x) k in
+        rw (
+          turned_bit n (bit_and (turned n left) (turned n right)) i (and_lt n _ _ (turned_lt n left) (turned_lt n right)) l,
+          bit_at_and (turned n left) (turned n right) i,
+          turned_bit n left i left_lt l,
+          turned_bit n right i right_lt l,
+          bit_at_and x y' i,
+          bit_at_and x' y i,
+          turned_bit n x i h l,
+          turned_bit n y i k l,
+          bit_at_xor x y i,
+        )
+        (omega arith)
 
-split_and : (n x y a b r s : ℕ) → Split n x a r → Split n y b s → Split n (bit_and x y) (bit_and a b) (bit_and r s)
-split_and n x y a b r s p q = record {
-  is = rw (p.is, q.is) (and_block 1 a b r s p.low q.low);
-  high = and_lt n a b p.high q.high;
-  low = and_lt 1 r s p.low q.low;
-}
-
-split_xor : (n x y a b r s : ℕ) → Split n x a r → Split n y b s → bit_xor x y ≡ bit_xor a b * 2 + bit_xor r s
-split_xor n x y a b r s p q = rw (p.is, q.is) (xor_block 1 a b r s p.low q.low)
-
-split_comp : (n x a r : ℕ) → Split n x a r → Split n (comp (suc n) x) (comp n a) (1 - r)
-split_comp n x a r p =
-    let double : 2 ^ suc n ≡ 2 ^ n * 2 = ap (λ k. 2 ^ k) (sym (add-one n)) ∙ pow-add 2 n 1 in
-    let is = p.is in
-    let high = p.high in
-    let low = p.low in
-    record { is = omega arith; high = omega arith; low = omega arith }
-
-split_of : (n x : ℕ) → x < 2 ^ suc n → Split n x (x / 2) (x % 2)
-split_of n x h =
-    let double : 2 ^ suc n ≡ 2 ^ n * 2 = ap (λ k. 2 ^ k) (sym (add-one n)) ∙ pow-add 2 n 1 in
-    record { is = omega arith; high = omega arith; low = omega arith }
-
-bits : (r s : ℕ) → r < 2 → s < 2 → 1 - bit_and (1 - bit_and r (1 - s)) (1 - bit_and (1 - r) s) ≡ bit_xor r s
-bits zero zero h k = refl
-bits zero (suc zero) h k = refl
-bits zero (suc (suc s)) h k = omega arith
-bits (suc zero) zero h k = refl
-bits (suc zero) (suc zero) h k = refl
-bits (suc zero) (suc (suc s)) h k = omega arith
-bits (suc (suc r)) s h k = omega arith
-
-pub xor_made : (n x y : ℕ) → x < 2 ^ n → y < 2 ^ n → made n x y ≡ bit_xor x y
-xor_made zero x y h k =
-    let p : x ≡ 0 = omega arith in
-    let q : y ≡ 0 = omega arith in
-    rw (p, q)
-xor_made (suc n) x y h k =
-    let p = split_of n x h in
-    let q = split_of n y k in
-    let a = x / 2 in
-    let b = y / 2 in
-    let r = x % 2 in
-    let s = y % 2 in
-    let left = split_comp n _ _ _ (split_and n x (comp (suc n) y) a (comp n b) r (1 - s) p (split_comp n y b s q)) in
-    let right = split_comp n _ _ _ (split_and n (comp (suc n) x) y (comp n a) b (1 - r) s (split_comp n x a r p) q) in
-    let all = split_comp n _ _ _ (split_and n _ _ _ _ _ _ left right) in
-    all.is ∙ ap (λ z. z * 2 + (1 - bit_and (1 - bit_and r (1 - s)) (1 - bit_and (1 - r) s))) (xor_made n a b p.high q.high)
-    ∙ ap (λ z. bit_xor a b * 2 + z) (bits r s p.low q.low)
-    ∙ sym (split_xor n x y a b r s p q)
-
-abbrev made_colour : Colour → Colour → Colour
-made_colour c d = complement (both (complement (both c (complement d))) (complement (both (complement c) d)))
-
-rgb_eq : (r r' g g' b b' : ℕ) → r ≡ r' → g ≡ g' → b ≡ b' → rgb r g b ≡ rgb r' g' b'
-rgb_eq r r' g g' b b' e f h = rw (e, f, h)
-
-xored_made : (c d : Colour) → Channels c → Channels d → xored c d ≡ made_colour c d
-xored_made c d h k =
-    let r = xor_made 8 c.red d.red h.red k.red in
-    let g = xor_made 8 c.green d.green h.green k.green in
-    let b = xor_made 8 c.blue d.blue h.blue k.blue in
-    rgb_eq _ _ _ _ _ _ (sym r) (sym g) (sym b)
+xored_made : (c d : Colour) → Channels c → Channels d
+    → xored c d ≡ complement (both (complement (both c (complement d))) (complement (both (complement c) d)))
+xored_made c d h k = rw (← xor_made 8 c.red d.red h.red k.red, ← xor_made 8 c.green d.green h.green k.green, ← xor_made 8 c.blue d.blue h.blue k.blue)
 
 complement_channels : (c : Colour) → Channels (complement c)
 complement_channels c = record { red = omega arith; green = omega arith; blue = omega arith }
@@ -104,15 +59,15 @@ module _ (f : Format) (narrow : Colour → ℕ) (laws : Narrows f narrow) where
       let d' = complement_channels d in
       let left = both c (complement d) in
       let right = both (complement c) d in
-      let p : narrow (complement left) ≡ comp n (bit_and (narrow c) (comp n (narrow d))) =
-      laws.complements left (both_channels c (complement d) h) ∙ ap (comp n) (laws.ands c (complement d) h d' ∙ ap (bit_and (narrow c)) (laws.complements d k)) in
-      let q : narrow (complement right) ≡ comp n (bit_and (comp n (narrow c)) (narrow d)) =
-      laws.complements right (both_channels (complement c) d c') ∙ ap (comp n) (laws.ands (complement c) d c' k ∙ ap (λ x. bit_and x (narrow d)) (laws.complements c h)) in
+      let p : narrow (complement left) ≡ turned n (bit_and (narrow c) (turned n (narrow d))) =
+      laws.complements left (both_channels c (complement d) h) ∙ ap (turned n) (laws.ands c (complement d) h d' ∙ ap (bit_and (narrow c)) (laws.complements d k)) in
+      let q : narrow (complement right) ≡ turned n (bit_and (turned n (narrow c)) (narrow d)) =
+      laws.complements right (both_channels (complement c) d c') ∙ ap (turned n) (laws.ands (complement c) d c' k ∙ ap (λ x. bit_and x (narrow d)) (laws.complements c h)) in
       let l' = complement_channels left in
       let r' = complement_channels right in
       ap narrow (xored_made c d h k)
       ∙ laws.complements (both (complement left) (complement right)) (both_channels (complement left) (complement right) l')
-      ∙ ap (comp n) (laws.ands (complement left) (complement right) l' r' ∙ ap (λ x. bit_and x (narrow (complement right))) p ∙ ap (bit_and (comp n (bit_and (narrow c) (comp n (narrow d))))) q)
+      ∙ ap (turned n) (laws.ands (complement left) (complement right) l' r' ∙ ap (λ x. bit_and x (narrow (complement right))) p ∙ ap (bit_and (turned n (bit_and (narrow c) (turned n (narrow d))))) q)
       ∙ xor_made n (narrow c) (narrow d) (laws.fits c h) (laws.fits d k)
 
   -- twice the same exclusive or gives the value back

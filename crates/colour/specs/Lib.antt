@@ -1,4 +1,5 @@
 pub mod Widths
+pub mod Packing
 pub mod Channels
 pub mod Entries
 pub mod Formats

@@ -5,26 +5,19 @@ ghost use Rattle.colour.specs.Widths.{bits_of, widened, narrowed};
 // The widths that a field of a pixel value can have, in bits.
 #[derive(Clone, Copy, PartialEq, Eq, Debug)]
 pub enum FieldWidth {
-    Two,
-    Three,
-    Four,
-    Five,
-    Six,
-    Eight,
+    Two = 2,
+    Three = 3,
+    Four = 4,
+    Five = 5,
+    Six = 6,
+    Eight = 8,
 }
 
 impl FieldWidth {
     pub fn bits(self) -> u8
         ensures { result ≡ bits_of self }
     {
-        match self {
-            FieldWidth::Two => 2,
-            FieldWidth::Three => 3,
-            FieldWidth::Four => 4,
-            FieldWidth::Five => 5,
-            FieldWidth::Six => 6,
-            FieldWidth::Eight => 8,
-        }
+        self as u8
     }
 
     // The channel that the lowest bits of `field` widen to.
@@ -46,13 +39,6 @@ impl FieldWidth {
     pub fn narrow(self, channel: u8) -> u8
         ensures { result ≡ narrowed (bits_of self) channel }
     {
-        match self {
-            FieldWidth::Two => channel / 64,
-            FieldWidth::Three => channel / 32,
-            FieldWidth::Four => channel / 16,
-            FieldWidth::Five => channel / 8,
-            FieldWidth::Six => channel / 4,
-            FieldWidth::Eight => channel,
-        }
+        channel >> (8 - self.bits())
     }
 }

@@ -7,8 +7,10 @@ ghost use Rattle.colour.specs.Entries.{entry_of_bytes, entry_colour, entry_at, p
 ghost use Rattle.colour.specs.Formats.{Format, Narrows};
 
 mod field;
+mod fields;
 
 pub use field::FieldWidth;
+pub use fields::Fields;
 
 #[derive(Clone, Copy, PartialEq, Eq, Debug)]
 pub struct Colour {
@@ -27,17 +29,20 @@ pub struct Palette {
 pub fn entry_of_bytes(low: u8, high: u8) -> u16
     ensures { result ≡ entry_of_bytes low high }
 {
-    low as u16 + 256 * (high % 16) as u16
+    u16::from_le_bytes([low, high % 16])
 }
+
+const ENTRY_FIELDS: Fields = Fields {
+    high: FieldWidth::Four,
+    middle: FieldWidth::Four,
+    low: FieldWidth::Four,
+};
 
 pub fn colour_of_entry(entry: u16) -> Colour
     ensures { result ≡ entry_colour entry }
 {
-    Colour {
-        red: FieldWidth::Four.widen((entry / 256 % 16) as u8),
-        green: FieldWidth::Four.widen((entry / 16 % 16) as u8),
-        blue: FieldWidth::Four.widen((entry % 16) as u8),
-    }
+    let (red, green, blue) = ENTRY_FIELDS.unpack(entry as u32);
+    Colour { red, green, blue }
 }
 
 impl Palette {

@@ -34,7 +34,7 @@ impl<F: Readable + Copy, D: Canvas + Copy> ExclusiveOr<F, D> {
         ensures rule { result.rule ≡ record { rule = 6; first = self.now.format; second = self.now.canvas } }
         ensures canvas { result.canvas ≡ self.now.canvas }
         ensures first { result.first ≡ self.now.first }
-        ensures second { origin_of result.second ≡ image (area_of self.now.target) (D.Readable.format self.now.canvas).width }
+        ensures second { origin_of result.second ≡ image (area_of self.now.target) (D.format self.now.canvas).width }
         ensures target { result.target ≡ self.now.target }
     {
         let size = PixelSize::of(&self.canvas);
@@ -64,9 +64,9 @@ pub fn exclusive_or_twice<F: Readable + Copy, D: Canvas + Copy, M: Memory>(
     again: &[Part<'_>],
     memory: M,
 ) -> Drawn<M>
-    ensures leaves { M.Memory.bytes result.memory ≡ left_by_both (way_in_parts (exclusive_or_of F.Readable.format D.Readable.format D.Canvas.narrowed operation.now) palette.now parts.now) (way_in_parts (exclusive_or_of F.Readable.format D.Readable.format D.Canvas.narrowed operation.now) palette.now again.now) (M.Memory.bytes memory) }
-    ensures ends { result.complete ≡ both_complete (way_in_parts (exclusive_or_of F.Readable.format D.Readable.format D.Canvas.narrowed operation.now) palette.now parts.now) (way_in_parts (exclusive_or_of F.Readable.format D.Readable.format D.Canvas.narrowed operation.now) palette.now again.now) (M.Memory.bytes memory) }
-    ensures restored { sent_in (map portion_of parts.now) ≡ sent_in (map portion_of again.now) → SourceApart (exclusive_or_of F.Readable.format D.Readable.format D.Canvas.narrowed operation.now) → result.complete ≡ true → M.Memory.bytes result.memory ≡ M.Memory.bytes memory }
+    ensures leaves { M.bytes result.memory ≡ left_by_both (way_in_parts (exclusive_or_of F.format D.format D.narrowed operation.now) palette.now parts.now) (way_in_parts (exclusive_or_of F.format D.format D.narrowed operation.now) palette.now again.now) (M.bytes memory) }
+    ensures ends { result.complete ≡ both_complete (way_in_parts (exclusive_or_of F.format D.format D.narrowed operation.now) palette.now parts.now) (way_in_parts (exclusive_or_of F.format D.format D.narrowed operation.now) palette.now again.now) (M.bytes memory) }
+    ensures restored { sent_in (map portion_of parts.now) ≡ sent_in (map portion_of again.now) → SourceApart (exclusive_or_of F.format D.format D.narrowed operation.now) → result.complete ≡ true → M.bytes result.memory ≡ M.bytes memory }
 {
     let once = PartedDrawing {
         drawing: operation.drawing(),

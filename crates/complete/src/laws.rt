@@ -12,9 +12,9 @@ fn both<V: CompleteOperation, W: CompleteOperation, M: Memory>(
     second: &W,
     memory: M,
 ) -> Drawn<M>
-    ensures leaves { M.Memory.bytes result.memory ≡ left_by_both (V.CompleteOperation.way first.now) (W.CompleteOperation.way second.now) (M.Memory.bytes memory) }
-    ensures ends { result.complete ≡ both_complete (V.CompleteOperation.way first.now) (W.CompleteOperation.way second.now) (M.Memory.bytes memory) }
-    ensures whole { result.complete ≡ true → BothWhole (V.CompleteOperation.way first.now) (W.CompleteOperation.way second.now) (M.Memory.bytes memory) (M.Memory.bytes result.memory) }
+    ensures leaves { M.bytes result.memory ≡ left_by_both (V.way first.now) (W.way second.now) (M.bytes memory) }
+    ensures ends { result.complete ≡ both_complete (V.way first.now) (W.way second.now) (M.bytes memory) }
+    ensures whole { result.complete ≡ true → BothWhole (V.way first.now) (W.way second.now) (M.bytes memory) (M.bytes result.memory) }
 {
     let Drawn {
         memory,
@@ -30,7 +30,7 @@ fn both<V: CompleteOperation, W: CompleteOperation, M: Memory>(
     }
 }
 
-// What two orders left of two memories, and whether all drawings were complete.
+// What two orders left of two memories, and whether all drawings were complete: a flag, since both are handed back either way.
 pub struct Orders<M, N> {
     pub one: M,
     pub other: N,
@@ -46,10 +46,10 @@ fn both_orders<
     M: Memory,
     N: Memory,
 >(a: &V, b: &W, b_again: &X, a_again: &Y, one: M, other: N) -> Orders<M, N>
-    ensures one { M.Memory.bytes result.one ≡ left_by_both (V.CompleteOperation.way a.now) (W.CompleteOperation.way b.now) (M.Memory.bytes one) }
-    ensures other { N.Memory.bytes result.other ≡ left_by_both (X.CompleteOperation.way b_again.now) (Y.CompleteOperation.way a_again.now) (N.Memory.bytes other) }
-    ensures ends { result.complete ≡ (both_complete (V.CompleteOperation.way a.now) (W.CompleteOperation.way b.now) (M.Memory.bytes one) && both_complete (X.CompleteOperation.way b_again.now) (Y.CompleteOperation.way a_again.now) (N.Memory.bytes other)) }
-    ensures whole { result.complete ≡ true → BothWhole (V.CompleteOperation.way a.now) (W.CompleteOperation.way b.now) (M.Memory.bytes one) (M.Memory.bytes result.one) × BothWhole (X.CompleteOperation.way b_again.now) (Y.CompleteOperation.way a_again.now) (N.Memory.bytes other) (N.Memory.bytes result.other) }
+    ensures one { M.bytes result.one ≡ left_by_both (V.way a.now) (W.way b.now) (M.bytes one) }
+    ensures other { N.bytes result.other ≡ left_by_both (X.way b_again.now) (Y.way a_again.now) (N.bytes other) }
+    ensures ends { result.complete ≡ (both_complete (V.way a.now) (W.way b.now) (M.bytes one) && both_complete (X.way b_again.now) (Y.way a_again.now) (N.bytes other)) }
+    ensures whole { result.complete ≡ true → BothWhole (V.way a.now) (W.way b.now) (M.bytes one) (M.bytes result.one) × BothWhole (X.way b_again.now) (Y.way a_again.now) (N.bytes other) (N.bytes result.other) }
 {
     let Drawn {
         memory: one,
@@ -76,11 +76,11 @@ pub fn in_either_order<
     M: Memory,
     N: Memory,
 >(a: &V, b: &W, b_again: &X, a_again: &Y, one: M, other: N) -> Orders<M, N>
-    ensures one { M.Memory.bytes result.one ≡ left_by_both (V.CompleteOperation.way a.now) (W.CompleteOperation.way b.now) (M.Memory.bytes one) }
-    ensures other { N.Memory.bytes result.other ≡ left_by_both (X.CompleteOperation.way b_again.now) (Y.CompleteOperation.way a_again.now) (N.Memory.bytes other) }
-    ensures ends { result.complete ≡ (both_complete (V.CompleteOperation.way a.now) (W.CompleteOperation.way b.now) (M.Memory.bytes one) && both_complete (X.CompleteOperation.way b_again.now) (Y.CompleteOperation.way a_again.now) (N.Memory.bytes other)) }
-    ensures order { OrderHidden (V.CompleteOperation.way a.now) (W.CompleteOperation.way b.now) (X.CompleteOperation.way b_again.now) (Y.CompleteOperation.way a_again.now) (M.Memory.bytes one) (N.Memory.bytes other) result.complete (M.Memory.bytes result.one) (N.Memory.bytes result.other) }
-    ensures only { (OnlyBoth (V.CompleteOperation.way a.now).operation (W.CompleteOperation.way b.now).operation (M.Memory.bytes one) (M.Memory.bytes result.one)) × (OnlyBoth (X.CompleteOperation.way b_again.now).operation (Y.CompleteOperation.way a_again.now).operation (N.Memory.bytes other) (N.Memory.bytes result.other)) }
+    ensures one { M.bytes result.one ≡ left_by_both (V.way a.now) (W.way b.now) (M.bytes one) }
+    ensures other { N.bytes result.other ≡ left_by_both (X.way b_again.now) (Y.way a_again.now) (N.bytes other) }
+    ensures ends { result.complete ≡ (both_complete (V.way a.now) (W.way b.now) (M.bytes one) && both_complete (X.way b_again.now) (Y.way a_again.now) (N.bytes other)) }
+    ensures order { OrderHidden (V.way a.now) (W.way b.now) (X.way b_again.now) (Y.way a_again.now) (M.bytes one) (N.bytes other) result.complete (M.bytes result.one) (N.bytes result.other) }
+    ensures only { (OnlyBoth (V.way a.now).operation (W.way b.now).operation (M.bytes one) (M.bytes result.one)) × (OnlyBoth (X.way b_again.now).operation (Y.way a_again.now).operation (N.bytes other) (N.bytes result.other)) }
     ensures law { OrderDoesNotShow }
     ensures rectangle { RectangleOnly }
 {
@@ -93,9 +93,9 @@ pub fn twice<V: CompleteOperation, W: CompleteOperation, M: Memory>(
     again: &W,
     memory: M,
 ) -> Drawn<M>
-    ensures leaves { M.Memory.bytes result.memory ≡ left_by_both (V.CompleteOperation.way operation.now) (W.CompleteOperation.way again.now) (M.Memory.bytes memory) }
-    ensures ends { result.complete ≡ both_complete (V.CompleteOperation.way operation.now) (W.CompleteOperation.way again.now) (M.Memory.bytes memory) }
-    ensures undone { Undone (V.CompleteOperation.way operation.now) (W.CompleteOperation.way again.now) (M.Memory.bytes memory) result.complete (M.Memory.bytes result.memory) }
+    ensures leaves { M.bytes result.memory ≡ left_by_both (V.way operation.now) (W.way again.now) (M.bytes memory) }
+    ensures ends { result.complete ≡ both_complete (V.way operation.now) (W.way again.now) (M.bytes memory) }
+    ensures undone { Undone (V.way operation.now) (W.way again.now) (M.bytes memory) result.complete (M.bytes result.memory) }
     ensures law { ExclusiveOrUndoesItself }
 {
     both(operation, again, memory)

@@ -4,7 +4,7 @@ ghost use Rattle.complete.specs.Complete.{Way, left_by, completes, Completes};
 
 use memory::Memory;
 
-// The memory that is left, and whether all pixels were drawn.
+// The memory that is left, and whether all pixels were drawn. A flag and no Result: what is left is asked for either way.
 pub struct Drawn<M> {
     pub memory: M,
     pub complete: bool,
@@ -16,7 +16,7 @@ pub trait CompleteOperation {
 
     // Draws the operation by its parts, if it is accepted.
     fn draw<M: Memory>(&self, memory: M) -> Drawn<M>
-        ensures leaves { M.Memory.bytes result.memory ≡ left_by (way self.now) (M.Memory.bytes memory) }
-        ensures ends { result.complete ≡ completes (way self.now) (M.Memory.bytes memory) }
-        ensures whole { result.complete ≡ true → Completes (way self.now) (M.Memory.bytes memory) (M.Memory.bytes result.memory) };
+        ensures leaves { M.bytes result.memory ≡ left_by (way self.now) (M.bytes memory) }
+        ensures ends { result.complete ≡ completes (way self.now) (M.bytes memory) }
+        ensures whole { result.complete ≡ true → Completes (way self.now) (M.bytes memory) (M.bytes result.memory) };
 }

@@ -13,65 +13,6 @@ use engine::{Drawing, Progress, Waiting};
 use memory::Memory;
 use rules::PixelRule;
 
-// Spends an allowance of pixels, if memory serves the operation.
-fn run<R: PixelRule, D: Canvas, M: Memory>(
-    drawing: &Drawing<R, D>,
-    palette: &Palette,
-    memory: &mut M,
-    progress: &mut Progress,
-    allowance: u32,
-)
-    ensures { stage (M.Memory.bytes memory.new) progress.new ≡ stepped (op_of R.PixelRule.yields D.Readable.format D.Canvas.narrowed drawing.now) palette.now (stage (M.Memory.bytes memory.old) progress.old) (spent allowance) }
-{
-    if drawing.first.awaited() == 0 {
-        progress.drawn += drawing.draw(palette, memory, 0, progress.drawn, allowance);
-    }
-}
-
-// One part more.
-fn step<R: PixelRule, D: Canvas, M: Memory>(
-    drawing: &Drawing<R, D>,
-    palette: &Palette,
-    memory: &mut M,
-    progress: &mut Progress,
-    part: &Part<'_>,
-)
-    ensures { stage (M.Memory.bytes memory.new) progress.new ≡ stepped (op_of R.PixelRule.yields D.Readable.format D.Canvas.narrowed drawing.now) palette.now (stage (M.Memory.bytes memory.old) progress.old) (portion_of part.now) }
-{
-    match *part {
-        Part::Feed(bytes) => {
-            drawing.feed(palette, memory, progress, bytes);
-        }
-        Part::Run(allowance) => run(drawing, palette, memory, progress, allowance),
-    }
-}
-
-// Draws the parts, and answers how far the drawing has come.
-fn draw_parts<R: PixelRule, D: Canvas, M: Memory>(
-    drawing: &Drawing<R, D>,
-    palette: &Palette,
-    memory: &mut M,
-    parts: &[Part<'_>],
-) -> Progress
-    ensures { stage (M.Memory.bytes memory.new) result ≡ parted (op_of R.PixelRule.yields D.Readable.format D.Canvas.narrowed drawing.now) palette.now (begun (M.Memory.bytes memory.old)) (map portion_of parts.now) }
-{
-    let mut progress = Progress {
-        drawn: 0,
-        waiting: Waiting::None,
-    };
-    for part in parts {
-        step(drawing, palette, memory, &mut progress, part);
-    }
-    progress
-}
-
-// Whether all pixels are drawn.
-fn is_complete<R: PixelRule, D: Canvas>(drawing: &Drawing<R, D>, progress: &Progress) -> bool
-    ensures { result ≡ nat_le (pixels (area_of drawing.now.target)) progress.now.drawn }
-{
-    drawing.target.pixels() <= progress.drawn
-}
-
 // A drawing under a palette, by parts.
 #[derive(Drop)]
 pub struct PartedDrawing<'a, 'b, R, D> {
@@ -80,21 +21,66 @@ pub struct PartedDrawing<'a, 'b, R, D> {
     pub parts: &'a [Part<'b>],
 }
 
-impl<R: PixelRule, D: Canvas> CompleteOperation for PartedDrawing<'_, '_, R, D> {
-    ghost way = { λ d. way_in_parts (op_of R.PixelRule.yields D.Readable.format D.Canvas.narrowed d.drawing) d.palette d.parts.now };
+impl<R: PixelRule, D: Canvas> PartedDrawing<'_, '_, R, D> {
+    // Spends an allowance of pixels, if memory serves the operation.
+    fn run<M: Memory>(&self, memory: &mut M, progress: &mut Progress, allowance: u32)
+        ensures { stage (M.bytes memory.new) progress.new ≡ stepped (op_of R.yields D.format D.narrowed self.now.drawing) self.now.palette (stage (M.bytes memory.old) progress.old) (spent allowance) }
+    {
+        if self.drawing.first.awaited() == 0 {
+            progress.drawn += self
+                .drawing
+                .draw(&self.palette, memory, 0, progress.drawn, allowance);
+        }
+    }
 
-    fn draw<M: Memory>(&self, memory: M) -> Drawn<M> {
-        let mut memory = memory;
+    // One part more.
+    fn step<M: Memory>(&self, memory: &mut M, progress: &mut Progress, part: &Part<'_>)
+        ensures { stage (M.bytes memory.new) progress.new ≡ stepped (op_of R.yields D.format D.narrowed self.now.drawing) self.now.palette (stage (M.bytes memory.old) progress.old) (portion_of part.now) }
+    {
+        match *part {
+            Part::Feed(bytes) => {
+                self.drawing.feed(&self.palette, memory, progress, bytes);
+            }
+            Part::Run(allowance) => self.run(memory, progress, allowance),
+        }
+    }
+
+    // Draws the parts, and answers how far the drawing has come.
+    fn draw_parts<M: Memory>(&self, memory: &mut M) -> Progress
+        ensures { stage (M.bytes memory.new) result ≡ parted (op_of R.yields D.format D.narrowed self.now.drawing) self.now.palette (begun (M.bytes memory.old)) (map portion_of self.now.parts.now) }
+    {
+        let mut progress = Progress {
+            drawn: 0,
+            waiting: Waiting::None,
+        };
+        for part in self.parts {
+            self.step(memory, &mut progress, part);
+        }
+        progress
+    }
+
+    // Whether all pixels are drawn.
+    fn is_complete(&self, progress: &Progress) -> bool
+        ensures { result ≡ nat_le (pixels (area_of self.now.drawing.target)) progress.now.drawn }
+    {
+        self.drawing.target.pixels() <= progress.drawn
+    }
+}
+
+impl<R: PixelRule, D: Canvas> CompleteOperation for PartedDrawing<'_, '_, R, D> {
+    ghost way = { λ d. way_in_parts (op_of R.yields D.format D.narrowed d.drawing) d.palette d.parts.now };
+
+    fn draw<M: Memory>(&self, mut memory: M) -> Drawn<M> {
         if !self.drawing.lies_inside(memory.size()) {
             return Drawn {
                 memory,
                 complete: false,
             };
         }
-        let progress = draw_parts(&self.drawing, &self.palette, &mut memory, self.parts);
+        let progress = self.draw_parts(&mut memory);
         Drawn {
             memory,
-            complete: is_complete(&self.drawing, &progress),
+            complete: self.is_complete(&progress),
         }
     }
 }

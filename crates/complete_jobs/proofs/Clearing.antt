@@ -1,5 +1,5 @@
 -- What clearing gave.
-use Rattle.std.proofs.Common.{◌≡◌, ℕ, Bool, true, false, not, leb, List, map, length, is_some, Some, None, Option, sym, refl, ap, ◌∙◌, subst, arith}
+use Rattle.std.proofs.Common.{◌≡◌, ℕ, Bool, true, false, not, leb, List, map, length, is_some, Some, None, Option, refl, ap, ◌∙◌, arith}
 use Rattle.std.proofs.lemmas.Bool.Decides.{nat_tests}
 use Rattle.colour.specs.declared.Palette.{Palette}
 use Rattle.window.specs.Places.{pixels}
@@ -15,35 +15,34 @@ use Rattle.complete_jobs.proofs.Accepting.{accepted_settings}
 
 judged_cleared : (s : Settings) (size : ℕ) (o : Option ℕ) (w : Work) → cleared w ≡ judged s size o → (o ≡ None) × (w ≡ fresh_work (plan_at s) size)
 judged_cleared s size None w e = (refl, cc)
-judged_cleared s size (Some n) w e = let z : ◌≡◌ {A = ℕ} 0 1 = cc in let no_way : ⊥ = omega arith in absurd no_way
+judged_cleared s size (Some n) w e = cc
 
 judged_declined : (s t : Settings) (size n : ℕ) (o : Option ℕ) → declined t n ≡ judged s size o → not (is_some o) ≡ false
-judged_declined s t size n None e = let z : ◌≡◌ {A = ℕ} 0 1 = cc in let no_way : ⊥ = omega arith in absurd no_way
+judged_declined s t size n None e = cc
 judged_declined s t size n (Some k) e = refl
 
-same_size : (n : ℕ) → leb n n ≡ true
-same_size n = grind (arith, nat_tests)
-
-module _ (s : Settings) (p : Palette) (ps : List Part) (m n : List ℕ) (complete : Bool) where
-  pub owed_refused : (t : Settings) (k : ℕ) → declined t k ≡ clearing s (length m) → n ≡ m → complete ≡ false → Owed (way_of s p ps) m n complete
-  owed_refused t k e same none =
-      let v = way_of s p ps in
-      subst (λ x. Owed v m x complete) (sym same) (subst (Owed v m m) (sym none) (owed_declined v m (judged_declined s t (length m) k (grounds s (length m)) e)))
-
+module _ (s : Settings) (m : List ℕ) where
   module _ (w : Work) (e : cleared w ≡ clearing s (length m)) where
-    pub fresh : w ≡ fresh_work (plan_at s) (length m)
-    fresh = (judged_cleared s (length m) (grounds s (length m)) w e).1
+    pub fresh : (grounds s (length m) ≡ None) × (w ≡ fresh_work (plan_at s) (length m))
+    fresh = judged_cleared s (length m) (grounds s (length m)) w e
 
     -- the memory that a job was cleared for serves it
     pub serves_fresh : serves w m ≡ true
-    serves_fresh = ap (λ x. leb x.size (length m)) fresh ∙ same_size (length m)
+    serves_fresh = rw fresh.1 (grind (arith, nat_tests))
 
-    pub owed_job : n ≡ (parted (op_at w.plan) p (stage_of w m) (map portion_of ps)).memory
+  module _ (p : Palette) (ps : List Part) (n : List ℕ) (complete : Bool) where
+    pub owed_refused : (t : Settings) (k : ℕ) → declined t k ≡ clearing s (length m) → n ≡ m → complete ≡ false → Owed (way_of s p ps) m n complete
+    owed_refused t k e same none =
+        rw (same, none) (owed_declined (way_of s p ps) m (judged_declined s t (length m) k (grounds s (length m)) e))
+
+    pub owed_job : (w : Work) → cleared w ≡ clearing s (length m)
+        → n ≡ (parted (op_at w.plan) p (stage_of w m) (map portion_of ps)).memory
         → complete ≡ leb (pixels w.plan.target) (parted (op_at w.plan) p (stage_of w m) (map portion_of ps)).drawn
         → Owed (way_of s p ps) m n complete
-    owed_job memory ended =
-        let none = (judged_cleared s (length m) (grounds s (length m)) w e).0 in
-        let t = parted (op_at w.plan) p (stage_of w m) (map portion_of ps) in
-        let stage : record { memory = n; drawn = t.drawn; waiting = t.waiting } ≡ t = ap (λ x. record { memory = x; drawn = t.drawn; waiting = t.waiting }) memory in
-        owed (way_of s p ps) m (ap (λ o. not (is_some o)) none) (accepted_settings s (length m) none) n t.drawn t.waiting
-        (stage ∙ ap (λ x. parted (op_at x.plan) p (stage_of x m) (map portion_of ps)) fresh) complete (ended ∙ ap (λ x. leb (pixels x.plan.target) t.drawn) fresh)
+    owed_job w e memory ended =
+        let v = way_of s p ps in
+        let is = fresh w e in
+        let t = parted (op_at w.plan) p (stage_of w m) v.portions in
+        owed v m (ap (λ o. not (is_some o)) is.0) (accepted_settings s (length m) is.0) n t.drawn t.waiting
+        (ap (λ x. record { memory = x; drawn = t.drawn; waiting = t.waiting }) memory ∙ ap (λ x. parted (op_at x.plan) p (stage_of x m) v.portions) is.1)
+        complete (ended ∙ ap (λ x. leb (pixels x.plan.target) t.drawn) is.1)

@@ -6,9 +6,9 @@ use Rattle.engine.specs.Fed.{Stage}
 use Rattle.engine.proofs.Laws.{fed_grew, painted_length}
 use Rattle.complete.specs.declared.part.Part.{Part}
 use Rattle.complete.specs.Parts.{Portion, feed, run, portion_of, by_memory, advanced, allowed, stepped, parted}
-use Rattle.complete.proofs.Parting.{parted_none, parted_more, parted_all}
+use Rattle.complete.proofs.Parting.{parted_more, parted_all}
 use Rattle.job.specs.Plans.{op_at}
-use Rattle.job.specs.Works.{Work, serves, stage_of, at_stage}
+use Rattle.job.specs.Works.{Work, stage_of, at_stage}
 
 -- a part leaves memory as long as it was
 pub stepped_length : (o : Op) (p : Palette) (s : Stage) (x : Portion) → length (stepped o p s x).memory ≡ length s.memory
@@ -24,31 +24,23 @@ pub record Parting (w : Work) (p : Palette) (m : List ℕ) (ps : List Part) (i :
   pub rest : parted (op_at w.plan) p (stage_of w' m') (map portion_of (drop i ps)) ≡ parted (op_at w.plan) p (stage_of w m) (map portion_of ps)
   pub fits : leb w.size (length m') ≡ true
 
-module _ (w : Work) (p : Palette) (m : List ℕ) (ps : List Part) where
-  pub no_part_yet : leb w.size (length m) ≡ true → Parting w p m ps 0 w m
-  no_part_yet e = record { job = refl; rest = parted_none (op_at w.plan) p ps 0 (stage_of w m) (stage_of w m) refl; fits = e }
+module _ (w : Work) (p : Palette) (m : List ℕ) (ps : List Part) (i : ℕ) (w' : Work) (m' : List ℕ) (f : Parting w p m ps i w' m') where
+  pub one_part_more : (w'' : Work) (m'' : List ℕ) (d : Part) → i < length ps
+      → w'' ≡ at_stage w' (stepped (op_at w'.plan) p (stage_of w' m') (portion_of (get_or ps i d)))
+      → m'' ≡ (stepped (op_at w'.plan) p (stage_of w' m') (portion_of (get_or ps i d))).memory → Parting w p m ps (i + 1) w'' m''
+  one_part_more w'' m'' d h job memory =
+      let o = op_at w.plan in
+      let x = portion_of (get_or ps i d) in
+      let e = parted o p (stage_of w m) (map portion_of ps) in
+      let plan = ap (λ v. op_at v.plan) f.job in
+      let t = stepped (op_at w'.plan) p (stage_of w' m') x in
+      let stage : stage_of w'' m'' ≡ t = ap (λ v. stage_of v m'') job ∙ ap (stage_of (at_stage w' t)) memory in
+      let step : t ≡ stepped o p (stage_of w' m') x = ap (λ q. stepped q p (stage_of w' m') x) plan in
+      record {
+        job = job ∙ ap (λ v. at_stage v t) f.job ∙ ap (at_stage w) (sym stage);
+        rest = parted_more o p ps i (stage_of w' m') e (stage_of w'' m'') d h (stage ∙ step) f.rest;
+        fits = ap (λ n. leb w.size (length n)) (memory ∙ ap (λ s. s.memory) step) ∙ ap (leb w.size) (stepped_length o p (stage_of w' m') x) ∙ f.fits;
+      }
 
-  module _ (i : ℕ) (w' : Work) (m' : List ℕ) (f : Parting w p m ps i w' m') where
-    -- the job is the same, so a memory that is large enough serves it
-    pub still_serves : serves w' m' ≡ true
-    still_serves = ap (λ x. leb x.size (length m')) f.job ∙ f.fits
-
-    pub one_part_more : (w'' : Work) (m'' : List ℕ) (d : Part) → i < length ps
-        → w'' ≡ at_stage w' (stepped (op_at w'.plan) p (stage_of w' m') (portion_of (get_or ps i d)))
-        → m'' ≡ (stepped (op_at w'.plan) p (stage_of w' m') (portion_of (get_or ps i d))).memory → Parting w p m ps (i + 1) w'' m''
-    one_part_more w'' m'' d h job memory =
-        let o = op_at w.plan in
-        let x = portion_of (get_or ps i d) in
-        let e = parted o p (stage_of w m) (map portion_of ps) in
-        let plan = ap (λ v. op_at v.plan) f.job in
-        let t = stepped (op_at w'.plan) p (stage_of w' m') x in
-        let stage : stage_of w'' m'' ≡ t = ap (λ v. stage_of v m'') job ∙ ap (stage_of (at_stage w' t)) memory in
-        let step : t ≡ stepped o p (stage_of w' m') x = ap (λ q. stepped q p (stage_of w' m') x) plan in
-        record {
-          job = job ∙ ap (λ v. at_stage v t) f.job ∙ ap (at_stage w) (sym stage);
-          rest = parted_more o p ps i (stage_of w' m') e (stage_of w'' m'') d h (stage ∙ step) f.rest;
-          fits = ap (λ n. leb w.size (length n)) (memory ∙ ap (λ s. s.memory) step) ∙ ap (leb w.size) (stepped_length o p (stage_of w' m') x) ∙ f.fits;
-        }
-
-    pub all_parts : length ps ≤ i → stage_of w' m' ≡ parted (op_at w.plan) p (stage_of w m) (map portion_of ps)
-    all_parts h = parted_all (op_at w.plan) p ps i (stage_of w' m') (parted (op_at w.plan) p (stage_of w m) (map portion_of ps)) h f.rest
+  pub all_parts : length ps ≤ i → stage_of w' m' ≡ parted (op_at w.plan) p (stage_of w m) (map portion_of ps)
+  all_parts h = parted_all (op_at w.plan) p ps i (stage_of w' m') (parted (op_at w.plan) p (stage_of w m) (map portion_of ps)) h f.rest

@@ -1,7 +1,6 @@
 -- A job's calls as the parts of a drawing.
-use Rattle.std.proofs.Common.{◌≡◌, ℕ, Bool, true, false, cond, not, ◌&&◌, ltb, leb, List, sym, refl, ap, ◌∙◌, add-zero, arith}
-use Rattle.std.proofs.lemmas.Bool.{cond-true, cond-false, ltb-false}
-use Rattle.std.proofs.lemmas.Bool.Decides.{nat_tests}
+use Rattle.std.proofs.Common.{◌≡◌, ℕ, Bool, true, false, cond, ltb, List, sym, refl, ap, ◌∙◌, add-zero, arith}
+use Rattle.std.proofs.lemmas.Bool.{ltb-false}
 use Rattle.colour.specs.declared.Palette.{Palette}
 use Rattle.window.specs.Places.{pixels}
 use Rattle.engine.specs.Painted.{Op, painted}
@@ -9,7 +8,7 @@ use Rattle.engine.specs.Fed.{Stage, fed}
 use Rattle.engine.proofs.Feeding.{fed_ended}
 use Rattle.complete.specs.Parts.{feed, run, by_memory, advanced, allowed, stepped}
 use Rattle.job.specs.Plans.{op_at}
-use Rattle.job.specs.Works.{Work, serves, awaits, runs, stage_of, fed_stage, feed_after, run_stage, run_after}
+use Rattle.job.specs.Works.{Work, serves, awaits, stage_of, feed_after, run_after}
 
 -- past the last pixel an allowance draws nothing
 pub advanced_none : (o : Op) (p : Palette) (s : Stage) → advanced o p s 0 ≡ s
@@ -22,31 +21,18 @@ module _ (w : Work) (p : Palette) (m : List ℕ) (fits : serves w m ≡ true) wh
   feed_steps xs = by (awaits w) refl
     where
       by : (b : Bool) → awaits w ≡ b → feed_after w p m xs ≡ fed (op_at w.plan) p (stage_of w m) xs
-      by true e = cond-true (serves w m && awaits w) (fed_stage w p m xs) (stage_of w m) (rw (fits, e))
-      by false e = cond-false (serves w m && awaits w) (fed_stage w p m xs) (stage_of w m) (rw (fits, e)) ∙ sym (fed_ended (op_at w.plan) p (stage_of w m) xs e)
+      by true e = rw (fits, e)
+      by false e = rw (fits, e) (sym (fed_ended (op_at w.plan) p (stage_of w m) xs e))
 
   -- a run, a declined one too
   pub run_steps : (n : ℕ) → run_after w p m n ≡ stepped (op_at w.plan) p (stage_of w m) (run n)
   run_steps n = by (by_memory (op_at w.plan)) (ltb w.drawn (pixels w.plan.target)) refl refl
     where
-      o : Op
-      o = op_at w.plan
-
       by : (b c : Bool) → by_memory (op_at w.plan) ≡ b → ltb w.drawn (pixels w.plan.target) ≡ c
           → run_after w p m n ≡ cond (by_memory (op_at w.plan)) (advanced (op_at w.plan) p (stage_of w m) (allowed (op_at w.plan) (stage_of w m) n)) (stage_of w m)
-      by true true e f =
-          cond-true (serves w m && runs w) (run_stage w p m n) (stage_of w m) (rw (fits, e, f))
-          ∙ sym (cond-true (by_memory (op_at w.plan)) (advanced (op_at w.plan) p (stage_of w m) (allowed (op_at w.plan) (stage_of w m) n)) (stage_of w m) e)
+      by true true e f = rw (fits, e, f)
       by true false e f =
           let past = ltb-false w.drawn (pixels w.plan.target) f in
           let none : allowed (op_at w.plan) (stage_of w m) n ≡ 0 = omega arith in
-          cond-false (serves w m && runs w) (run_stage w p m n) (stage_of w m) (rw (fits, e, f))
-          ∙ sym (cond-true (by_memory (op_at w.plan)) (advanced (op_at w.plan) p (stage_of w m) (allowed (op_at w.plan) (stage_of w m) n)) (stage_of w m) e
-          ∙ ap (advanced (op_at w.plan) p (stage_of w m)) none ∙ advanced_none (op_at w.plan) p (stage_of w m))
-      by false c e f =
-          cond-false (serves w m && runs w) (run_stage w p m n) (stage_of w m) (rw (fits, e))
-          ∙ sym (cond-false (by_memory (op_at w.plan)) (advanced (op_at w.plan) p (stage_of w m) (allowed (op_at w.plan) (stage_of w m) n)) (stage_of w m) e)
-
--- neither bytes nor runs are awaited exactly when all pixels are drawn
-pub ended_is : (w : Work) → (not (awaits w) && not (runs w)) ≡ leb (pixels w.plan.target) w.drawn
-ended_is w = grind (arith, nat_tests)
+          rw (fits, e, f) (sym (ap (advanced (op_at w.plan) p (stage_of w m)) none ∙ advanced_none (op_at w.plan) p (stage_of w m)))
+      by false c e f = rw (fits, e)

@@ -1,10 +1,10 @@
 #![tactic(auto)]
 // A job, from its draft to its close, as a complete operation.
-ghost use Rattle.std.specs.Prelude.{◌≡◌, ℕ, ◌≤◌, Bool, true, map, length, nat_le};
+ghost use Rattle.std.specs.Prelude.{◌≡◌, true, map, nat_le};
 ghost use Rattle.window.specs.Places.{pixels};
 ghost use Rattle.complete.specs.Parts.{portion_of, stepped, parted};
 ghost use Rattle.job.specs.Plans.{op_at};
-ghost use Rattle.job.specs.Works.{work_of, serves, stage_of, at_stage};
+ghost use Rattle.job.specs.Works.{serves, stage_of, at_stage};
 ghost use Rattle.complete.specs.Laws.{left_by_both, both_complete};
 ghost use Rattle.complete_jobs.specs.Ways.{way_of};
 ghost use Rattle.complete_jobs.specs.Undo.{SettingsUndone};
@@ -14,49 +14,6 @@ use complete::{CompleteOperation, Drawn, Part, twice};
 use job::{Begun, Draft, Settings};
 use memory::Memory;
 
-// One part more; a declined feed or run changes nothing.
-fn step<M: Memory>(begun: &mut Begun, memory: &mut M, palette: &Palette, part: &Part<'_>)
-    requires { serves (work_of begun.old) (M.Memory.bytes memory.old) ≡ true }
-    ensures job { work_of begun.new ≡ at_stage (work_of begun.old) (stepped (op_at (work_of begun.old).plan) palette.now (stage_of (work_of begun.old) (M.Memory.bytes memory.old)) (portion_of part.now)) }
-    ensures memory { M.Memory.bytes memory.new ≡ (stepped (op_at (work_of begun.old).plan) palette.now (stage_of (work_of begun.old) (M.Memory.bytes memory.old)) (portion_of part.now)).memory }
-{
-    match *part {
-        Part::Feed(bytes) => {
-            let _ = begun.feed(memory, palette, bytes);
-        }
-        Part::Run(allowance) => {
-            let _ = begun.run(memory, palette, allowance);
-        }
-    }
-}
-
-// Whether all pixels are drawn: a job that is not over awaits bytes, or runs.
-fn is_over(begun: &Begun) -> bool
-    ensures { result ≡ nat_le (pixels (work_of begun.now).plan.target) (work_of begun.now).drawn }
-{
-    !begun.awaits() && !begun.runs()
-}
-
-// Feeds and runs a job that was begun, and answers whether all its pixels are drawn.
-fn draw_parts<M: Memory>(
-    begun: Begun,
-    memory: &mut M,
-    palette: &Palette,
-    parts: &[Part<'_>],
-) -> bool
-    requires { serves (work_of begun) (M.Memory.bytes memory.old) ≡ true }
-    ensures memory { M.Memory.bytes memory.new ≡ (parted (op_at (work_of begun).plan) palette.now (stage_of (work_of begun) (M.Memory.bytes memory.old)) (map portion_of parts.now)).memory }
-    ensures ended { result ≡ nat_le (pixels (work_of begun).plan.target) (parted (op_at (work_of begun).plan) palette.now (stage_of (work_of begun) (M.Memory.bytes memory.old)) (map portion_of parts.now)).drawn }
-{
-    let mut begun = begun;
-    for part in parts {
-        step(&mut begun, memory, palette, part);
-    }
-    let complete = is_over(&begun);
-    let _ = begun.close();
-    complete
-}
-
 // The settings of an operation, its palette, and the parts in which it is drawn.
 #[derive(Drop)]
 pub struct PartedJob<'a, 'b> {
@@ -65,13 +22,51 @@ pub struct PartedJob<'a, 'b> {
     pub parts: &'a [Part<'b>],
 }
 
+impl PartedJob<'_, '_> {
+    // One part more; a declined feed or run changes nothing.
+    fn step<M: Memory>(&self, begun: &mut Begun, memory: &mut M, part: &Part<'_>)
+        requires { serves begun.old (M.bytes memory.old) ≡ true }
+        ensures job { begun.new ≡ at_stage begun.old (stepped (op_at begun.old.plan) self.now.palette (stage_of begun.old (M.bytes memory.old)) (portion_of part.now)) }
+        ensures memory { M.bytes memory.new ≡ (stepped (op_at begun.old.plan) self.now.palette (stage_of begun.old (M.bytes memory.old)) (portion_of part.now)).memory }
+    {
+        match *part {
+            Part::Feed(bytes) => {
+                let _ = begun.feed(memory, &self.palette, bytes);
+            }
+            Part::Run(allowance) => {
+                let _ = begun.run(memory, &self.palette, allowance);
+            }
+        }
+    }
+
+    // Feeds and runs a job that was begun, and answers whether all its pixels are drawn.
+    fn draw_parts<M: Memory>(&self, mut begun: Begun, memory: &mut M) -> bool
+        requires { serves begun (M.bytes memory.old) ≡ true }
+        ensures memory { M.bytes memory.new ≡ (parted (op_at begun.plan) self.now.palette (stage_of begun (M.bytes memory.old)) (map portion_of self.now.parts.now)).memory }
+        ensures ended { result ≡ nat_le (pixels begun.plan.target) (parted (op_at begun.plan) self.now.palette (stage_of begun (M.bytes memory.old)) (map portion_of self.now.parts.now)).drawn }
+    {
+        for part in self.parts {
+            self.step(&mut begun, memory, part);
+        }
+        let complete = is_over(&begun);
+        let _ = begun.close();
+        complete
+    }
+}
+
+// Whether all pixels are drawn: a job that is not over awaits bytes, or runs.
+fn is_over(begun: &Begun) -> bool
+    ensures { result ≡ nat_le (pixels begun.now.plan.target) begun.now.drawn }
+{
+    !begun.awaits() && !begun.runs()
+}
+
 impl CompleteOperation for PartedJob<'_, '_> {
     ghost way = { λ j. way_of j.settings j.palette j.parts.now };
 
-    fn draw<M: Memory>(&self, memory: M) -> Drawn<M> {
-        let mut memory = memory;
+    fn draw<M: Memory>(&self, mut memory: M) -> Drawn<M> {
         let complete = match Draft::new(self.settings).clear(&memory) {
-            Ok(cleared) => draw_parts(cleared.begin(), &mut memory, &self.palette, self.parts),
+            Ok(cleared) => self.draw_parts(cleared.begin(), &mut memory),
             Err(_) => false,
         };
         Drawn { memory, complete }
@@ -84,9 +79,9 @@ pub fn settings_twice<V: CompleteOperation, W: CompleteOperation, M: Memory>(
     again: &W,
     memory: M,
 ) -> Drawn<M>
-    ensures leaves { M.Memory.bytes result.memory ≡ left_by_both (V.CompleteOperation.way operation.now) (W.CompleteOperation.way again.now) (M.Memory.bytes memory) }
-    ensures ends { result.complete ≡ both_complete (V.CompleteOperation.way operation.now) (W.CompleteOperation.way again.now) (M.Memory.bytes memory) }
-    ensures undone { SettingsUndone (V.CompleteOperation.way operation.now) (W.CompleteOperation.way again.now) (M.Memory.bytes memory) result.complete (M.Memory.bytes result.memory) }
+    ensures leaves { M.bytes result.memory ≡ left_by_both (V.way operation.now) (W.way again.now) (M.bytes memory) }
+    ensures ends { result.complete ≡ both_complete (V.way operation.now) (W.way again.now) (M.bytes memory) }
+    ensures undone { SettingsUndone (V.way operation.now) (W.way again.now) (M.bytes memory) result.complete (M.bytes result.memory) }
 {
     twice(operation, again, memory)
 }

@@ -11,11 +11,19 @@ use refusal::Refusal;
 use rules::{Fill, Raster};
 use source::Source;
 use std::test::Fail;
-use window::{PixelSize, SIDE_LIMIT, Window};
+use window::{Area, PixelSize, SIDE_LIMIT, Window};
 
 // Two pixels in a row.
 fn pair(start: u32) -> Result<Window, Refusal> {
-    Window::new(SIDE_LIMIT, start, 2, 0, 0, 2, 1)
+    let area = Area {
+        start,
+        image: 2,
+        left: 0,
+        top: 0,
+        width: 2,
+        height: 1,
+    };
+    Window::new(SIDE_LIMIT, area)
 }
 
 // Red on the two bytes from an address on.

@@ -55,18 +55,14 @@ module _ (o : Op) (p : Palette) where
       elim (ltb (length bs) (awaited o.first)) as P [ true ↦ omega arith | false ↦ omega arith ]
 
 -- so far i bytes of xs have been fed
-pub record Feeding (o : Op) (p : Palette) (s : Stage) (xs : List ℕ) (i : ℕ) (t : Stage) (taken : ℕ) : Type 0 where
+pub record Feeding (o : Op) (p : Palette) (s : Stage) (xs : List ℕ) (i : ℕ) (t : Stage) : Type 0 where
   pub after : fed o p t (drop i xs) ≡ fed o p s xs
-  pub count : taken + bytes_taken o p t (drop i xs) ≡ bytes_taken o p s xs
+  pub count : i + bytes_taken o p t (drop i xs) ≡ bytes_taken o p s xs
   pub grew : s.drawn ≤ t.drawn
-  pub few : taken ≤ i
 
 module _ (o : Op) (p : Palette) (s : Stage) (xs : List ℕ) where
-  pub feeding_none : Feeding o p s xs 0 s 0
-  feeding_none = record { after = refl; count = omega arith; grew = omega arith; few = omega arith }
-
-  module _ (i : ℕ) (t : Stage) (taken : ℕ) (f : Feeding o p s xs i t taken) where
-    pub feeding_more : (t' : Stage) → i < length xs → takes o t.drawn ≡ true → t' ≡ come o p t (t.waiting ++ get_or xs i 0 ∷ []) → Feeding o p s xs (i + 1) t' (taken + 1)
+  module _ (i : ℕ) (t : Stage) (f : Feeding o p s xs i t) where
+    pub feeding_more : (t' : Stage) → i < length xs → takes o t.drawn ≡ true → t' ≡ come o p t (t.waiting ++ get_or xs i 0 ∷ []) → Feeding o p s xs (i + 1) t'
     unfolding fed byte_fed bytes_taken
     feeding_more t' h e q =
         let x = get_or xs i 0 in
@@ -78,20 +74,19 @@ module _ (o : Op) (p : Palette) (s : Stage) (xs : List ℕ) where
           after = ap (λ u. fed o p u (drop (i + 1) xs)) (sym fed_x) ∙ ap (fed o p t) (sym next) ∙ f.after;
           count = omega (arith, count, f.count);
           grew = omega (arith, f.grew, grown o p t (t.waiting ++ x ∷ []), more);
-          few = omega (arith, f.few);
         }
 
-    pub feeding_all : length xs ≤ i → Feed o p s xs t taken (t.drawn - s.drawn)
+    pub feeding_all : i ≡ length xs → Feed o p s xs t (length xs) (t.drawn - s.drawn)
     unfolding fed bytes_taken
     feeding_all h =
-        let none = drop_all i xs h in
+        let none = drop_all i xs (omega arith) in
         record {
           after = ap (fed o p t) (sym none) ∙ f.after;
           taken_is = omega (arith, ap (bytes_taken o p t) none, f.count);
           drawn_is = refl;
         }
 
-    pub feeding_ended : takes o t.drawn ≡ false → Feed o p s xs t taken (t.drawn - s.drawn)
+    pub feeding_ended : takes o t.drawn ≡ false → Feed o p s xs t i (t.drawn - s.drawn)
     feeding_ended e = record {
       after = sym (fed_ended o p t (drop i xs) e) ∙ f.after;
       taken_is = omega (arith, taken_ended o p t (drop i xs) e, f.count);

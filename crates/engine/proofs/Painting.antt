@@ -1,12 +1,12 @@
 -- The steps of a drawing.
-use Rattle.std.proofs.Common.{◌≡◌, ℕ, ◌+◌, List, refl, ap, ◌∙◌, add-one}
+use Rattle.std.proofs.Common.{◌≡◌, ℕ, suc, ◌+◌, ◌-◌, ◌≤◌, List, ap, ◌∙◌, arith}
 use Rattle.engine.specs.Painted.{painted}
 
-pub painted_none : (draw : ℕ → List ℕ → List ℕ) (first : ℕ) (m : List ℕ) → m ≡ painted draw first 0 m
+-- pixel k after those before it
+pub painted_more : (draw : ℕ → List ℕ → List ℕ) (first k : ℕ) (m n o : List ℕ)
+    → first ≤ k → n ≡ painted draw first (k - first) m → o ≡ draw k n → o ≡ painted draw first (k + 1 - first) m
 unfolding painted
-painted_none draw first m = refl
-
-pub painted_more : (draw : ℕ → List ℕ → List ℕ) (first i : ℕ) (m n o : List ℕ)
-    → n ≡ painted draw first i m → o ≡ draw (first + i) n → o ≡ painted draw first (i + 1) m
-unfolding painted
-painted_more draw first i m n o e f = rw (add-one i) (f ∙ ap (draw (first + i)) e)
+painted_more draw first k m n o h e f =
+    let next : k + 1 - first ≡ suc (k - first) = omega arith in
+    let here : k ≡ first + (k - first) = omega arith in
+    rw next (f ∙ ap (λ i. draw i n) here ∙ ap (draw (first + (k - first))) e)

@@ -3,7 +3,8 @@ use Rattle.std.specs.Prelude.{ℕ, zero, suc, ◌+◌, List, Some, None, Option}
 use Rattle.colour.specs.declared.Colour.{Colour}
 use Rattle.colour.specs.declared.Palette.{Palette}
 use Rattle.colour.specs.Formats.{Format}
-use Rattle.window.specs.Places.{Area, area_of, place}
+use Rattle.window.specs.declared.area.Area.{Area}
+use Rattle.window.specs.Places.{area_of, place}
 use Rattle.window.specs.Values.{stored}
 use Rattle.source.specs.Origins.{Origin, origin_of, sampled}
 use Rattle.rules.specs.Yields.{Yields}

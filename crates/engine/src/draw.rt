@@ -14,7 +14,7 @@ use window::PixelSize;
 impl<R: PixelRule, D: Canvas> Drawing<R, D> {
     // What the rule yields for pixel k, where the host sent a number.
     fn yielded<M: Memory>(&self, palette: &Palette, memory: &M, sent: u32, k: u32) -> Option<Colour>
-        ensures { result ≡ yielded (op_of R.PixelRule.yields D.Readable.format D.Canvas.narrowed self.now) palette.now sent k (M.bytes memory.now) }
+        ensures { result ≡ yielded (op_of R.yields D.format D.narrowed self.now) palette.now sent k (M.bytes memory.now) }
     {
         let first = self.first.value(memory, sent, k);
         let second = self.second.value(memory, sent, k);
@@ -23,7 +23,7 @@ impl<R: PixelRule, D: Canvas> Drawing<R, D> {
 
     // Stores a colour as pixel k.
     fn put<M: Memory>(&self, memory: &mut M, k: u32, colour: Colour)
-        ensures { M.bytes memory.new ≡ stored (M.bytes memory.old) (place (area_of self.now.target) (D.Readable.format self.now.canvas).width k) (D.Readable.format self.now.canvas).width (D.Canvas.narrowed self.now.canvas colour) }
+        ensures { M.bytes memory.new ≡ stored (M.bytes memory.old) (place (area_of self.now.target) (D.format self.now.canvas).width k) (D.format self.now.canvas).width (D.narrowed self.now.canvas colour) }
     {
         let size = PixelSize::of(&self.canvas);
         self.target
@@ -31,8 +31,9 @@ impl<R: PixelRule, D: Canvas> Drawing<R, D> {
     }
 
     // Draws pixel k, where the host sent a number.
+    #[tactic(auto, unfolding(crate::specs::Painted::plotted))]
     fn plot<M: Memory>(&self, palette: &Palette, memory: &mut M, sent: u32, k: u32)
-        ensures { M.bytes memory.new ≡ plotted (op_of R.PixelRule.yields D.Readable.format D.Canvas.narrowed self.now) palette.now sent k (M.bytes memory.old) }
+        ensures { M.bytes memory.new ≡ plotted (op_of R.yields D.format D.narrowed self.now) palette.now sent k (M.bytes memory.old) }
     {
         if let Some(colour) = self.yielded(palette, memory, sent, k) {
             self.put(memory, k, colour);
@@ -46,7 +47,10 @@ impl<R: PixelRule, D: Canvas> Drawing<R, D> {
         allowance.min(self.target.pixels().saturating_sub(first))
     }
 
-    // Draws so many pixels, or as many as are left, from `first` on, and answers how many that were.
+    // Draws so many pixels, or as many as are left, from `first` on, and answers how many that were. Palette and memory come
+    // apart, here and in jobs, since the one is read and the other written: lent as one, each contract would have to add that
+    // the palette stays.
+    #[tactic(auto, using(crate::proofs::Painting::painted_more), unfolding(crate::specs::Painted::painted))]
     pub fn draw<M: Memory>(
         &self,
         palette: &Palette,
@@ -56,13 +60,13 @@ impl<R: PixelRule, D: Canvas> Drawing<R, D> {
         allowance: u32,
     ) -> u32
         ensures count { result ≡ min allowance (pixels (area_of self.now.target) - first) }
-        ensures after { M.bytes memory.new ≡ painted (plotted (op_of R.PixelRule.yields D.Readable.format D.Canvas.narrowed self.now) palette.now sent) first result (M.bytes memory.old) }
-        ensures holds { PixelsHold (op_of R.PixelRule.yields D.Readable.format D.Canvas.narrowed self.now) palette.now sent first result (M.bytes memory.old) (M.bytes memory.new) }
-        ensures only { OnlyPixels (op_of R.PixelRule.yields D.Readable.format D.Canvas.narrowed self.now) first result (M.bytes memory.old) (M.bytes memory.new) }
+        ensures after { M.bytes memory.new ≡ painted (plotted (op_of R.yields D.format D.narrowed self.now) palette.now sent) first result (M.bytes memory.old) }
+        ensures holds { PixelsHold (op_of R.yields D.format D.narrowed self.now) palette.now sent first result (M.bytes memory.old) (M.bytes memory.new) }
+        ensures only { OnlyPixels (op_of R.yields D.format D.narrowed self.now) first result (M.bytes memory.old) (M.bytes memory.new) }
     {
         let count = self.allowed(first, allowance);
-        for i in 0..count {
-            self.plot(palette, memory, sent, first + i);
+        for k in first..first + count {
+            self.plot(palette, memory, sent, k);
         }
         count
     }

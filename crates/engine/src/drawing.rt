@@ -3,6 +3,7 @@ use crate::waiting::Waiting;
 use source::Source;
 use window::Window;
 
+// Clauses see it by `op_of` and no model, since its rule and its format mean functions, which the value of a model cannot be.
 #[derive(Clone, Copy)]
 pub struct Drawing<R, D> {
     pub rule: R,

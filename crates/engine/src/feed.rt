@@ -28,20 +28,19 @@ impl Waiting {
     fn number(self, last: u8) -> u32
         ensures { result ≡ number (waits self ++ last ∷ []) }
     {
-        let last = last as u32;
-        match self {
-            Waiting::None => last,
-            Waiting::One(a) => a as u32 + 256 * last,
-            Waiting::Two(a, b) => a as u32 + 256 * (b as u32 + 256 * last),
-            Waiting::Three(a, b, c) => a as u32 + 256 * (b as u32 + 256 * (c as u32 + 256 * last)),
-        }
+        u32::from_le_bytes(match self {
+            Waiting::None => [last, 0, 0, 0],
+            Waiting::One(a) => [a, last, 0, 0],
+            Waiting::Two(a, b) => [a, b, last, 0],
+            Waiting::Three(a, b, c) => [a, b, c, last],
+        })
     }
 }
 
 impl<R: PixelRule, D: Canvas> Drawing<R, D> {
     // Whether a byte is awaited.
     pub fn takes(&self, drawn: u32) -> bool
-        ensures { result ≡ takes (op_of R.PixelRule.yields D.Readable.format D.Canvas.narrowed self.now) drawn }
+        ensures { result ≡ takes (op_of R.yields D.format D.narrowed self.now) drawn }
     {
         0 < self.first.awaited() && drawn < self.target.pixels()
     }
@@ -54,7 +53,7 @@ impl<R: PixelRule, D: Canvas> Drawing<R, D> {
         progress: &mut Progress,
         byte: u8,
     )
-        ensures { stage (M.bytes memory.new) progress.new ≡ come (op_of R.PixelRule.yields D.Readable.format D.Canvas.narrowed self.now) palette.now (stage (M.bytes memory.old) progress.old) (waits progress.old.waiting ++ byte ∷ []) }
+        ensures { stage (M.bytes memory.new) progress.new ≡ come (op_of R.yields D.format D.narrowed self.now) palette.now (stage (M.bytes memory.old) progress.old) (waits progress.old.waiting ++ byte ∷ []) }
     {
         match progress.waiting.and(byte, self.first.awaited()) {
             Some(waiting) => progress.waiting = waiting,
@@ -77,19 +76,17 @@ impl<R: PixelRule, D: Canvas> Drawing<R, D> {
         progress: &mut Progress,
         sent: &[u8],
     ) -> (usize, u32)
-        ensures feeds { Feed (op_of R.PixelRule.yields D.Readable.format D.Canvas.narrowed self.now) palette.now (stage (M.bytes memory.old) progress.old) sent.now (stage (M.bytes memory.new) progress.new) result.0 result.1 }
-        ensures only { OnlyPixels (op_of R.PixelRule.yields D.Readable.format D.Canvas.narrowed self.now) progress.old.drawn result.1 (M.bytes memory.old) (M.bytes memory.new) }
-        ensures parts { FeedsInParts (op_of R.PixelRule.yields D.Readable.format D.Canvas.narrowed self.now) palette.now }
+        ensures feeds { Feed (op_of R.yields D.format D.narrowed self.now) palette.now (stage (M.bytes memory.old) progress.old) sent.now (stage (M.bytes memory.new) progress.new) result.0 result.1 }
+        ensures only { OnlyPixels (op_of R.yields D.format D.narrowed self.now) progress.old.drawn result.1 (M.bytes memory.old) (M.bytes memory.new) }
+        ensures parts { FeedsInParts (op_of R.yields D.format D.narrowed self.now) palette.now }
     {
         let before = progress.drawn;
-        let mut taken = 0;
-        for byte in sent {
+        for (taken, byte) in sent.iter().enumerate() {
             if !self.takes(progress.drawn) {
-                break;
+                return (taken, progress.drawn - before);
             }
             self.accept(palette, memory, progress, *byte);
-            taken += 1;
         }
-        (taken, progress.drawn - before)
+        (sent.len(), progress.drawn - before)
     }
 }

@@ -10,7 +10,7 @@ use rules::PixelRule;
 impl<R: PixelRule, D: Canvas> Drawing<R, D> {
     // Whether all that is read and drawn lies inside a memory of some size.
     pub fn lies_inside(&self, size: u32) -> bool
-        ensures { result ≡ lies_inside (op_of R.PixelRule.yields D.Readable.format D.Canvas.narrowed self.now) size }
+        ensures { result ≡ lies_inside (op_of R.yields D.format D.narrowed self.now) size }
     {
         let size = size as u64;
         let height = self.target.height();

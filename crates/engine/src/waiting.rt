@@ -1,4 +1,5 @@
-// The bytes of an unfinished pixel or unit.
+// The bytes of an unfinished pixel or unit. An enum and no buffer: it is copied with its progress, and cannot hold four bytes, so
+// that no bound is carried or tested.
 #[derive(Clone, Copy)]
 pub enum Waiting {
     None,

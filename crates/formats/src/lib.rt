@@ -9,12 +9,22 @@ ghost use Rattle.formats.specs.Laws.{narrows332, narrows565, narrows888, depth_k
 mod overlays;
 mod tables;
 
-use colour::{Canvas, Colour, FieldWidth, Palette, Readable};
+use colour::{Canvas, Colour, FieldWidth, Fields, Palette, Readable};
 pub use overlays::{Argb4444, Index26, OverlayKind};
-use tables::colour_in_table;
+use tables::{COLOURS, row};
 
+// The canvases are types of their own over one text in `Fields`: widths as const parameters would admit formats that fill no
+// bytes and so keep no laws.
 #[derive(Clone, Copy, PartialEq, Eq, Debug)]
 pub struct Rgb332;
+
+impl Rgb332 {
+    const FIELDS: Fields = Fields {
+        high: FieldWidth::Three,
+        middle: FieldWidth::Three,
+        low: FieldWidth::Two,
+    };
+}
 
 impl Readable for Rgb332 {
     ghost format = { λ _. format332 };
@@ -24,7 +34,7 @@ impl Readable for Rgb332 {
     }
 
     fn colour(&self, _palette: &Palette, value: u32) -> Colour {
-        colour_in_table(value)
+        row(&COLOURS, value)
     }
 }
 
@@ -34,15 +44,20 @@ impl Canvas for Rgb332 {
     ghost keeps = { λ _. narrows332 };
 
     fn narrow(&self, colour: Colour) -> u32 {
-        let red = FieldWidth::Three.narrow(colour.red) as u32;
-        let green = FieldWidth::Three.narrow(colour.green) as u32;
-        let blue = FieldWidth::Two.narrow(colour.blue) as u32;
-        (red * 8 + green) * 4 + blue
+        Rgb332::FIELDS.pack(colour.red, colour.green, colour.blue)
     }
 }
 
 #[derive(Clone, Copy, PartialEq, Eq, Debug)]
 pub struct Rgb565;
+
+impl Rgb565 {
+    const FIELDS: Fields = Fields {
+        high: FieldWidth::Five,
+        middle: FieldWidth::Six,
+        low: FieldWidth::Five,
+    };
+}
 
 impl Readable for Rgb565 {
     ghost format = { λ _. format565 };
@@ -52,11 +67,8 @@ impl Readable for Rgb565 {
     }
 
     fn colour(&self, _palette: &Palette, value: u32) -> Colour {
-        Colour {
-            red: FieldWidth::Five.widen((value / 2048 % 32) as u8),
-            green: FieldWidth::Six.widen((value / 32 % 64) as u8),
-            blue: FieldWidth::Five.widen((value % 32) as u8),
-        }
+        let (red, green, blue) = Rgb565::FIELDS.unpack(value);
+        Colour { red, green, blue }
     }
 }
 
@@ -66,15 +78,20 @@ impl Canvas for Rgb565 {
     ghost keeps = { λ _. narrows565 };
 
     fn narrow(&self, colour: Colour) -> u32 {
-        let red = FieldWidth::Five.narrow(colour.red) as u32;
-        let green = FieldWidth::Six.narrow(colour.green) as u32;
-        let blue = FieldWidth::Five.narrow(colour.blue) as u32;
-        (red * 64 + green) * 32 + blue
+        Rgb565::FIELDS.pack(colour.red, colour.green, colour.blue)
     }
 }
 
 #[derive(Clone, Copy, PartialEq, Eq, Debug)]
 pub struct Rgb888;
+
+impl Rgb888 {
+    const FIELDS: Fields = Fields {
+        high: FieldWidth::Eight,
+        middle: FieldWidth::Eight,
+        low: FieldWidth::Eight,
+    };
+}
 
 impl Readable for Rgb888 {
     ghost format = { λ _. format888 };
@@ -84,11 +101,8 @@ impl Readable for Rgb888 {
     }
 
     fn colour(&self, _palette: &Palette, value: u32) -> Colour {
-        Colour {
-            red: (value / 65536 % 256) as u8,
-            green: (value / 256 % 256) as u8,
-            blue: (value % 256) as u8,
-        }
+        let (red, green, blue) = Rgb888::FIELDS.unpack(value);
+        Colour { red, green, blue }
     }
 }
 
@@ -98,11 +112,12 @@ impl Canvas for Rgb888 {
     ghost keeps = { λ _. narrows888 };
 
     fn narrow(&self, colour: Colour) -> u32 {
-        (colour.red as u32 * 256 + colour.green as u32) * 256 + colour.blue as u32
+        Rgb888::FIELDS.pack(colour.red, colour.green, colour.blue)
     }
 }
 
-// A canvas format that is chosen while the program runs.
+// A canvas format that is chosen while the program runs. It is an enum: no proof is made of a trait object in a field, and a box would need a
+// heap, which the engine does not have.
 #[derive(Clone, Copy, PartialEq, Eq, Debug)]
 pub enum Depth {
     Rgb332,

@@ -4,7 +4,7 @@ ghost use Rattle.formats.specs.Overlays.{index_entry, format26, level26, format4
 ghost use Rattle.formats.specs.OverlayKinds.{overlay_format, overlay_level};
 ghost use Rattle.formats.specs.Levels.{index_bounded, bounded4444, overlay_bounded};
 
-use crate::tables::{field_level, index_level};
+use crate::tables::{FIELD_LEVELS, INDEX_LEVELS, row};
 use colour::{Colour, Overlay, Palette, Readable, colour_of_entry};
 
 // Index 2:6: bits 7-6 choose a level, bits 5-0 a palette entry.
@@ -38,7 +38,7 @@ impl Overlay for Index26 {
     ghost bounded = { λ _ v. index_bounded (v / 64 % 4) };
 
     fn level(&self, value: u32) -> u8 {
-        index_level(value / 64)
+        row(&INDEX_LEVELS, value / 64)
     }
 }
 
@@ -64,11 +64,12 @@ impl Overlay for Argb4444 {
     ghost bounded = { λ _. bounded4444 };
 
     fn level(&self, value: u32) -> u8 {
-        field_level(value / 4096)
+        row(&FIELD_LEVELS, value / 4096)
     }
 }
 
-// An overlay format that is chosen while the program runs.
+// An overlay format that is chosen while the program runs. It is an enum: no proof is made of a trait object in a field, and a box would need a
+// heap, which the engine does not have.
 #[derive(Clone, Copy, PartialEq, Eq, Debug)]
 pub enum OverlayKind {
     Index26,

@@ -1,40 +1,25 @@
 // The tables of the formats, and how they are read.
-ghost use Rattle.std.specs.Prelude.{◌≡◌, ℕ, ◌%◌, ◌≤◌, slice_index};
-ghost use Rattle.formats.specs.Packed.{colour332};
-ghost use Rattle.formats.specs.Overlays.{index_levels, field_level};
+ghost use Rattle.std.specs.Prelude.{◌≡◌, ℕ, ◌%◌, ◌<◌, slice_index_or};
 
 use colour::Colour;
 
-// The levels of the index format, by two bits.
-const INDEX_LEVELS: [u8; 4] = [0, 10, 21, 32];
-
-pub fn index_level(bits: u32) -> u8
-    ensures { result ≡ slice_index index_levels (bits % 4) }
+// The row that a value chooses, taken modulo the number of rows.
+pub fn row<T: Copy, const N: usize>(table: &[T; N], value: u32) -> T
+    requires { 0 < N }
+    ensures { (d : T) → result ≡ slice_index_or table.now (value % N) d }
 {
-    let table: &[u8; 4] = &INDEX_LEVELS;
-    table[(bits % 4) as usize]
+    table[value as usize % N]
 }
+
+// The levels of the index format, by two bits.
+pub const INDEX_LEVELS: [u8; 4] = [0, 10, 21, 32];
 
 // The levels of the 4:4:4:4 format, by a field of four bits.
-const FIELD_LEVELS: [u8; 16] = [0, 2, 4, 6, 8, 10, 12, 14, 16, 18, 20, 22, 24, 26, 28, 32];
-
-pub fn field_level(field: u32) -> u8
-    ensures { result ≡ field_level (field % 16) }
-{
-    let table: &[u8; 16] = &FIELD_LEVELS;
-    table[(field % 16) as usize]
-}
-
-pub fn colour_in_table(value: u32) -> Colour
-    ensures { result ≡ colour332 value }
-{
-    let table: &[Colour; 256] = &COLOURS;
-    table[(value % 256) as usize]
-}
+pub const FIELD_LEVELS: [u8; 16] = [0, 2, 4, 6, 8, 10, 12, 14, 16, 18, 20, 22, 24, 26, 28, 32];
 
 // The colours of the 3:3:2 format, by pixel value.
 #[rattlefmt::skip]
-const COLOURS: [Colour; 256] = [
+pub const COLOURS: [Colour; 256] = [
     Colour { red: 0, green: 0, blue: 0 },
     Colour { red: 0, green: 0, blue: 85 },
     Colour { red: 0, green: 0, blue: 170 },

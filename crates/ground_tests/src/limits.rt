@@ -1,6 +1,7 @@
 // Refusals 7 and 8: limits of windows, and the end of memory.
-use crate::settings::{ground, ground_over, pixel, surface};
+use crate::settings::{ground, ground_over};
 use job::{Settings, Surface};
+use samples::{settings, surface};
 
 // A fill of a rectangle in an image, over 8,192 bytes.
 fn ground_of_fill(image: u16, left: u16, top: u16, width: u16, height: u16) -> u8 {
@@ -8,7 +9,7 @@ fn ground_of_fill(image: u16, left: u16, top: u16, width: u16, height: u16) -> u
         image,
         left,
         top,
-        ..surface(0)
+        ..surface(0, 0, 8)
     };
     ground_over(
         &mut [0; 8192],
@@ -16,7 +17,7 @@ fn ground_of_fill(image: u16, left: u16, top: u16, width: u16, height: u16) -> u
             target,
             width,
             height,
-            ..pixel(12)
+            ..settings(12, 0, 8)
         },
     )
 }
@@ -47,13 +48,6 @@ fn corners(rt: HostRuntime) {
     assert_eq!(rt; ground_of_fill(1, 0, 8192, 1, 1), 7);
 }
 
-fn image(image: u16) -> Surface {
-    Surface {
-        image,
-        ..surface(0)
-    }
-}
-
 // 7: the window of each source that is used counts, and of no other.
 #[test]
 fn windows_of_sources(rt: HostRuntime) {
@@ -72,11 +66,11 @@ fn windows_of_sources(rt: HostRuntime) {
         (14, 0),
         (15, 0),
     ] {
-        let first = image(0);
+        let first = surface(0, 0, 0);
         assert_eq!(rt;
             ground(Settings {
                 first,
-                ..pixel(operation)
+                ..settings(operation, 0, 8)
             }),
             number
         );
@@ -100,11 +94,11 @@ fn windows_of_second_sources(rt: HostRuntime) {
         (14, 0),
         (15, 0),
     ] {
-        let second = image(0);
+        let second = surface(0, 0, 0);
         assert_eq!(rt;
             ground(Settings {
                 second,
-                ..pixel(operation)
+                ..settings(operation, 0, 8)
             }),
             number
         );
@@ -115,14 +109,14 @@ fn windows_of_second_sources(rt: HostRuntime) {
 fn ground_of_pattern(large: bool, width: u16, left: u16, block: &mut [u8]) -> u8 {
     let first = Surface {
         left,
-        ..image(width)
+        ..surface(0, 0, width)
     };
     ground_over(
         block,
         Settings {
             large,
             first,
-            ..pixel(7)
+            ..settings(7, 0, 8)
         },
     )
 }
@@ -142,13 +136,6 @@ fn patterns(rt: HostRuntime) {
     assert_eq!(rt; ground_of_pattern(true, 15, 0, &mut [0; 256]), 7);
 }
 
-fn at(depth: u8, start: u32) -> Surface {
-    Surface {
-        start,
-        ..surface(depth)
-    }
-}
-
 // 8: over 10 bytes a pixel of one byte begins at 9 at most, one of two at 8 and one of three at 7.
 #[test]
 fn ends_of_targets(rt: HostRuntime) {
@@ -161,13 +148,13 @@ fn ends_of_targets(rt: HostRuntime) {
         (2, 8, 8),
         (2, 4_294_967_295, 8),
     ] {
-        let target = at(depth, start);
+        let target = surface(depth, start, 8);
         assert_eq!(rt;
             ground_over(
                 &mut [0; 10],
                 Settings {
                     target,
-                    ..pixel(12)
+                    ..settings(12, 0, 8)
                 },
             ),
             number
@@ -186,15 +173,15 @@ fn ends_of_sources(rt: HostRuntime) {
         (2, 5, 8, 8, 8),
         (2, 5, 7, 9, 8),
     ] {
-        let first = at(depth, first);
-        let second = at(kind, second);
+        let first = surface(depth, first, 8);
+        let second = surface(kind, second, 8);
         assert_eq!(rt;
             ground_over(
                 &mut [0; 10],
                 Settings {
                     first,
                     second,
-                    ..pixel(10)
+                    ..settings(10, 0, 8)
                 },
             ),
             number
@@ -213,14 +200,14 @@ fn ends_of_bits(rt: HostRuntime) {
         (15, 1, 7, 8),
         (8, 1, 7, 0),
     ] {
-        let first = at(depth, start);
+        let first = surface(depth, start, 8);
         assert_eq!(rt;
             ground_over(
                 &mut [0; 10],
                 Settings {
                     first,
                     height: 2,
-                    ..pixel(operation)
+                    ..settings(operation, 0, 8)
                 },
             ),
             number

@@ -1,15 +1,16 @@
 // Refusals 3 to 6: the numbers of an operation, a depth, a kind, a start bit and a level.
-use crate::settings::{ground, pixel, surface};
+use crate::settings::ground;
 use job::Settings;
+use samples::{settings, surface};
 
 // 3: of the sixteen codes, 1, 3 and 13 are no operation.
 #[test]
 fn operations(rt: HostRuntime) {
     for operation in [0u8, 2, 4, 5, 6, 7, 8, 9, 10, 11, 12, 14, 15] {
-        assert_eq!(rt; ground(pixel(operation)), 0);
+        assert_eq!(rt; ground(settings(operation, 0, 8)), 0);
     }
     for operation in [1u8, 3, 13] {
-        assert_eq!(rt; ground(pixel(operation)), 3);
+        assert_eq!(rt; ground(settings(operation, 0, 8)), 3);
     }
 }
 
@@ -18,11 +19,11 @@ fn operations(rt: HostRuntime) {
 fn depths_of_bits(rt: HostRuntime) {
     for operation in [8u8, 9, 14, 15] {
         for (depth, number) in [(0u8, 0u8), (1, 0), (2, 4), (3, 4)] {
-            let first = surface(depth);
+            let first = surface(depth, 0, 8);
             assert_eq!(rt;
                 ground(Settings {
                     first,
-                    ..pixel(operation)
+                    ..settings(operation, 0, 8)
                 }),
                 number
             );
@@ -35,13 +36,13 @@ fn depths_of_bits(rt: HostRuntime) {
 fn depths_of_pixels(rt: HostRuntime) {
     for operation in [0u8, 2, 4, 5, 6, 7, 10, 11, 12] {
         for depth in [1u8, 2, 3] {
-            let first = surface(depth);
-            let target = surface(depth);
+            let first = surface(depth, 0, 8);
+            let target = surface(depth, 0, 8);
             assert_eq!(rt;
                 ground(Settings {
                     first,
                     target,
-                    ..pixel(operation)
+                    ..settings(operation, 0, 8)
                 }),
                 0
             );
@@ -51,8 +52,8 @@ fn depths_of_pixels(rt: HostRuntime) {
 
 fn ground_of_kind(operation: u8, kind: u8) -> u8 {
     ground(Settings {
-        second: surface(kind),
-        ..pixel(operation)
+        second: surface(kind, 0, 8),
+        ..settings(operation, 0, 8)
     })
 }
 
@@ -103,12 +104,12 @@ fn start_bits(rt: HostRuntime) {
             (1, 15, 0),
             (1, 16, 5),
         ] {
-            let first = surface(depth);
+            let first = surface(depth, 0, 8);
             assert_eq!(rt;
                 ground(Settings {
                     code,
                     first,
-                    ..pixel(operation)
+                    ..settings(operation, 0, 8)
                 }),
                 number
             );
@@ -123,7 +124,7 @@ fn codes_of_others(rt: HostRuntime) {
         assert_eq!(rt;
             ground(Settings {
                 code: 255,
-                ..pixel(operation)
+                ..settings(operation, 0, 8)
             }),
             0
         );
@@ -147,12 +148,12 @@ fn levels(rt: HostRuntime) {
         (2, 0, 33, 0),
         (12, 0, 255, 0),
     ] {
-        let second = surface(kind);
+        let second = surface(kind, 0, 8);
         assert_eq!(rt;
             ground(Settings {
                 second,
                 level,
-                ..pixel(operation)
+                ..settings(operation, 0, 8)
             }),
             number
         );

@@ -1,6 +1,7 @@
 // Where several grounds hold, the lowest number is answered.
-use crate::settings::{ground_over, pixel, surface};
+use crate::settings::ground_over;
 use job::{Settings, Surface};
+use samples::{settings, surface};
 
 // A blend with everything wrong, and less and less of it: the operation, the kind of the second source, its level, its window,
 // and the size of memory.
@@ -15,12 +16,12 @@ fn grounds_of_a_blend(rt: HostRuntime) {
     ] {
         let second = Surface {
             image,
-            ..surface(kind)
+            ..surface(kind, 0, 8)
         };
         let settings = Settings {
             level,
             second,
-            ..pixel(operation)
+            ..settings(operation, 0, 8)
         };
         assert_eq!(rt; ground_over(&mut [], settings), number);
     }
@@ -28,8 +29,8 @@ fn grounds_of_a_blend(rt: HostRuntime) {
         ground_over(
             &mut [0; 3],
             Settings {
-                second: surface(2),
-                ..pixel(10)
+                second: surface(2, 0, 8),
+                ..settings(10, 0, 8)
             },
         ),
         0
@@ -46,12 +47,12 @@ fn grounds_of_an_expansion(rt: HostRuntime) {
         (14, 1, 15, 0, 7),
         (14, 1, 15, 1, 8),
     ] {
-        let first = surface(depth);
+        let first = surface(depth, 0, 8);
         let settings = Settings {
             code,
             first,
             width,
-            ..pixel(operation)
+            ..settings(operation, 0, 8)
         };
         assert_eq!(rt; ground_over(&mut [], settings), number);
     }
@@ -59,8 +60,8 @@ fn grounds_of_an_expansion(rt: HostRuntime) {
         ground_over(
             &mut [0; 2],
             Settings {
-                first: surface(1),
-                ..pixel(14)
+                first: surface(1, 0, 8),
+                ..settings(14, 0, 8)
             },
         ),
         0

@@ -1,11 +1,17 @@
--- An accepted operation stays inside memory.
+-- What clearing gave, and that an accepted operation stays inside memory.
 use Rattle.std.specs.Prelude.{ℕ, ◌+◌, ◌<◌, ◌≤◌, Ok, Err, Result}
+use Rattle.refusal.specs.Numbers.{number_of}
 use Rattle.formats.specs.Depths.{depth_format}
 use Rattle.window.specs.Places.{pixels, place}
 use Rattle.source.specs.Origins.{taken_from, taken}
 use Rattle.job.specs.declared.job.Cleared.{Cleared}
 use Rattle.job.specs.declared.job.Declined.{Declined}
-use Rattle.job.specs.Plans.{Plan, plan_of}
+use Rattle.job.specs.Plans.{Plan}
+use Rattle.job.specs.Works.{Clearing, cleared, declined}
+
+abbrev pub clearing_of : Result Cleared Declined → Clearing
+clearing_of (Ok c) = cleared c
+clearing_of (Err d) = declined d.draft (number_of d.refusal)
 
 -- from the first pixel to the last, what is drawn on and what is taken from memory lies below the size
 pub record StaysInside (p : Plan) (size : ℕ) : Type 0 where
@@ -14,5 +20,5 @@ pub record StaysInside (p : Plan) (size : ℕ) : Type 0 where
   pub second : (k : ℕ) → k < pixels p.target → taken_from p.second k + taken p.second ≤ size
 
 abbrev pub AcceptedInside : Result Cleared Declined → Type 0
-AcceptedInside (Ok c) = StaysInside (plan_of c.drawing) c.size
+AcceptedInside (Ok c) = StaysInside c.plan c.size
 AcceptedInside (Err _) = Unit {0}

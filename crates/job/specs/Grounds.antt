@@ -7,7 +7,8 @@ use Rattle.formats.specs.Depths.{depth_format}
 use Rattle.rules.specs.declared.chosen.Rule.{Rule}
 use Rattle.engine.specs.declared.drawing.Drawing.{Drawing}
 use Rattle.window.specs.Limits.{within}
-use Rattle.window.specs.Places.{Area, reach}
+use Rattle.window.specs.declared.area.Area.{Area}
+use Rattle.window.specs.Places.{reach}
 use Rattle.source.specs.declared.source.Source.{Source}
 use Rattle.source.specs.Origins.{Origin, origin_of}
 use Rattle.source.specs.Reaches.{reach_of}
@@ -48,7 +49,7 @@ level_fits s n = cond (blends n && nat_le s.second.depth 2) (nat_le s.level 32) 
 
 -- 7: windows lie within their limits
 abbrev pub limited : Area → Bool
-limited a = within 8191 a.image a.left a.top a.width a.height
+limited a = within 8191 a
 
 abbrev pub first_limited : Settings → FirstKind → Bool
 first_limited s Nothing = true
@@ -91,9 +92,13 @@ abbrev pub plan_shown : Result (Drawing Rule Depth) Refusal → Result Plan ℕ
 plan_shown (Ok d) = Ok (plan_of d)
 plan_shown (Err e) = Err (number_of e)
 
+-- what passes a test, or the number of the test
+abbrev pub tested : {A : Type 0} → ℕ → Bool → A → Result A ℕ
+tested n b x = cond b (Ok x) (Err n)
+
 -- what passes its test, or 7
 abbrev pub or_7 : {A : Type 0} → Bool → A → Result A ℕ
-or_7 b x = cond b (Ok x) (Err 7)
+or_7 b x = tested 7 b x
 
 -- what a start answers: the plan, or the ground against it
 abbrev pub outcome : {A : Type 0} → Option ℕ → A → Result A ℕ

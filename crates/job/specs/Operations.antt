@@ -1,5 +1,8 @@
 -- The codes of the operations, and what each takes.
-use Rattle.std.specs.Prelude.{ℕ, Bool, cond, ◌||◌, Some, None, Option, ◌==◌}
+use Rattle.std.specs.Prelude.{◌≡◌, ℕ, Bool, cond, ◌||◌, Some, None, Option, Result, IfOk, ◌==◌}
+use Rattle.std.specs.Option.{ok_or}
+use Rattle.refusal.specs.declared.Refusal.{Refusal}
+use Rattle.refusal.specs.declared.Refusal.TheVariants.{NoSuchOperation}
 use Rattle.job.specs.declared.operation.Operation.{Operation}
 use Rattle.job.specs.declared.operation.Operation.TheVariants as operation
 use Rattle.job.specs.declared.operation.FirstKind.{FirstKind}
@@ -36,6 +39,11 @@ operation_at n =
     (cond (n == 12) (Some operation.Fill)
     (cond (n == 14) (Some operation.ExpandFromMemory)
     (cond (n == 15) (Some operation.ExpandOverFromMemory) None))))))))))))
+
+-- what is told of a code: the operation that has it, or that there is none
+pub record Decodes (n : ℕ) (r : Result Operation Refusal) : Type 0 where
+  pub is : r ≡ ok_or (operation_at n) NoSuchOperation
+  pub code : IfOk r (λ o. code_of o ≡ n)
 
 -- n is one of two or three codes
 abbrev pub either : ℕ → ℕ → ℕ → Bool

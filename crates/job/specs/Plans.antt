@@ -9,7 +9,8 @@ use Rattle.formats.specs.OverlayKinds.{overlay_format}
 use Rattle.rules.specs.declared.chosen.Rule.{Rule}
 use Rattle.rules.specs.declared.chosen.Rule.TheVariants as rule
 use Rattle.rules.specs.Chosen.{rule_yields}
-use Rattle.window.specs.Places.{Area, area_of}
+use Rattle.window.specs.declared.area.Area.{Area}
+use Rattle.window.specs.Places.{area_of}
 use Rattle.source.specs.Rows.{Rows}
 use Rattle.source.specs.Origins.{Origin, origin_of, unused, host, host_bits, image, pattern, bits}
 use Rattle.engine.specs.declared.drawing.Drawing.{Drawing}

@@ -1,18 +1,14 @@
 -- A job as plain values, and what its calls answer and leave.
-use Rattle.std.specs.Prelude.{◌≡◌, ℕ, ◌+◌, ◌-◌, min, Bool, cond, ◌&&◌, List, [], length, Some, None, Ok, Err, Option, Result, ◌==◌, nat_le, nat_lt}
-use Rattle.refusal.specs.Numbers.{number_of}
+use Rattle.std.specs.Prelude.{◌≡◌, ℕ, ◌+◌, ◌-◌, min, Bool, true, cond, ◌&&◌, List, [], length, Some, None, Ok, Err, Option, Result, ◌==◌, nat_le, nat_lt}
 use Rattle.colour.specs.declared.Palette.{Palette}
 use Rattle.window.specs.Places.{pixels}
 use Rattle.source.specs.Origins.{awaited}
 use Rattle.engine.specs.Painted.{plotted, painted}
 use Rattle.engine.specs.Laws.{EachHolds, OnlyPixels}
-use Rattle.engine.specs.Fed.{Stage, waits, takes, fed, bytes_taken}
-use Rattle.job.specs.declared.job.Begun.{Begun}
-use Rattle.job.specs.declared.job.Cleared.{Cleared}
-use Rattle.job.specs.declared.job.Declined.{Declined}
+use Rattle.engine.specs.Fed.{Stage, takes, fed, bytes_taken}
 use Rattle.job.specs.declared.settings.Settings.{Settings}
-use Rattle.job.specs.Plans.{Plan, plan_of, plan_at, op_at}
-use Rattle.job.specs.Grounds.{grounds}
+use Rattle.job.specs.Plans.{Plan, plan_at, op_at}
+use Rattle.job.specs.Grounds.{grounds, inside}
 
 -- what is drawn, the size of the memory that it was cleared for, the pixels drawn, and the bytes that wait
 pub record Work : Type 0 where
@@ -21,24 +17,18 @@ pub record Work : Type 0 where
   pub drawn : ℕ
   pub waiting : List ℕ
 
-abbrev pub work_of : Begun → Work
-work_of b = record { plan = plan_of b.drawing; size = b.size; drawn = b.progress.drawn; waiting = waits b.progress.waiting }
+-- what is read and drawn lies inside that memory
+abbrev pub LiesInside : Work → Type 0
+LiesInside w = inside w.plan w.size ≡ true
 
 -- a cleared job is one of which nothing is drawn
 abbrev pub fresh_work : Plan → ℕ → Work
 fresh_work p size = record { plan = p; size = size; drawn = 0; waiting = [] }
 
-abbrev pub cleared_work : Cleared → Work
-cleared_work c = fresh_work (plan_of c.drawing) c.size
-
 -- what clearing gives: the job, or the settings as they were and the ground
 pub data Clearing : Type 0 where
   cleared : Work → Clearing
   declined : Settings → ℕ → Clearing
-
-abbrev pub clearing_of : Result Cleared Declined → Clearing
-clearing_of (Ok c) = cleared (cleared_work c)
-clearing_of (Err d) = declined d.draft.settings (number_of d.refusal)
 
 abbrev pub judged : Settings → ℕ → Option ℕ → Clearing
 judged s size None = cleared (fresh_work (plan_at s) size)

@@ -2,8 +2,10 @@
 #![tactic(auto)]
 
 mod clear;
+mod declined;
 mod job;
 mod operation;
+mod parsed;
 mod run;
 mod settings;
 

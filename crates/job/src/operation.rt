@@ -1,8 +1,10 @@
 // The thirteen operations.
-ghost use Rattle.std.specs.Prelude.{◌≡◌, Bool, Some, None};
-ghost use Rattle.job.specs.Operations.{operation_at, code_of, first_kind, uses_second, blends};
+ghost use Rattle.std.specs.Prelude.{◌≡◌};
+ghost use Rattle.job.specs.Operations.{Decodes, code_of, first_kind, uses_second, blends};
 
-#[derive(Clone, Copy)]
+use refusal::Refusal;
+
+#[derive(Clone, Copy, PartialEq, Eq, Debug)]
 pub enum Operation {
     RasterFromHost,
     RasterFromMemory,
@@ -19,8 +21,9 @@ pub enum Operation {
     ExpandOverFromMemory,
 }
 
-// What an operation takes its first source from.
-#[derive(Clone, Copy)]
+// What an operation takes its first source from. `Nothing` is a row like the others, as in each table over these kinds; an
+// Option of a kind would only nest the matches.
+#[derive(Clone, Copy, PartialEq, Eq, Debug)]
 pub enum FirstKind {
     Nothing,
     HostPixels,
@@ -30,30 +33,32 @@ pub enum FirstKind {
     Bits,
 }
 
-impl Operation {
-    // The operation with a code, if there is one.
-    pub fn of(code: u8) -> Option<Operation>
-        ensures is { result ≡ operation_at code }
-        ensures code { elim result [ None ↦ Unit {0} | Some o ↦ code_of o ≡ code ] }
-    {
+impl TryFrom<u8> for Operation {
+    type Error = Refusal;
+
+    ghost try_from_gives = { Decodes };
+
+    fn try_from(code: u8) -> Result<Operation, Refusal> {
         match code {
-            0 => Some(Operation::RasterFromHost),
-            2 => Some(Operation::RasterFromMemory),
-            4 => Some(Operation::KeyFromHost),
-            5 => Some(Operation::KeyFromMemory),
-            6 => Some(Operation::PatternRaster),
-            7 => Some(Operation::PatternKey),
-            8 => Some(Operation::ExpandFromHost),
-            9 => Some(Operation::ExpandOverFromHost),
-            10 => Some(Operation::BlendFromMemory),
-            11 => Some(Operation::BlendFromHost),
-            12 => Some(Operation::Fill),
-            14 => Some(Operation::ExpandFromMemory),
-            15 => Some(Operation::ExpandOverFromMemory),
-            _ => None,
+            0 => Ok(Operation::RasterFromHost),
+            2 => Ok(Operation::RasterFromMemory),
+            4 => Ok(Operation::KeyFromHost),
+            5 => Ok(Operation::KeyFromMemory),
+            6 => Ok(Operation::PatternRaster),
+            7 => Ok(Operation::PatternKey),
+            8 => Ok(Operation::ExpandFromHost),
+            9 => Ok(Operation::ExpandOverFromHost),
+            10 => Ok(Operation::BlendFromMemory),
+            11 => Ok(Operation::BlendFromHost),
+            12 => Ok(Operation::Fill),
+            14 => Ok(Operation::ExpandFromMemory),
+            15 => Ok(Operation::ExpandOverFromMemory),
+            _ => Err(Refusal::NoSuchOperation),
         }
     }
+}
 
+impl Operation {
     pub(crate) fn first_kind(self) -> FirstKind
         ensures { result ≡ first_kind (code_of self) }
     {
@@ -78,13 +83,13 @@ impl Operation {
     pub(crate) fn uses_second(self) -> bool
         ensures { result ≡ uses_second (code_of self) }
     {
-        match self {
+        matches!(
+            self,
             Operation::RasterFromHost
-            | Operation::RasterFromMemory
-            | Operation::PatternRaster
-            | Operation::BlendFromMemory
-            | Operation::BlendFromHost => true,
-            _ => false,
-        }
+                | Operation::RasterFromMemory
+                | Operation::PatternRaster
+                | Operation::BlendFromMemory
+                | Operation::BlendFromHost
+        )
     }
 }

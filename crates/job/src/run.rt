@@ -1,10 +1,10 @@
 // The calls of a job.
-ghost use Rattle.std.specs.Prelude.{◌≡◌, ℕ, ◌+◌, ◌-◌, ◌≤◌, min, Bool, length, Ok};
+ghost use Rattle.std.specs.Prelude.{◌≡◌, ◌≤◌, min, length, Ok};
 ghost use Rattle.engine.specs.Painted.{plotted, painted};
 ghost use Rattle.job.specs.Plans.{op_at};
 ghost use Rattle.refusal.specs.Numbers.{numbered};
-ghost use Rattle.job.specs.Bounds.{AcceptedInside};
-ghost use Rattle.job.specs.Works.{work_of, cleared_work, clearing_of, clearing, awaits, runs, left, stage_of, at_stage, feed_answer, feed_after, run_answer, run_after, Ran, FedOnly};
+ghost use Rattle.job.specs.Bounds.{clearing_of, AcceptedInside};
+ghost use Rattle.job.specs.Works.{LiesInside, clearing, awaits, runs, left, at_stage, feed_answer, feed_after, run_answer, run_after, Ran, FedOnly};
 
 use crate::job::{Begun, Cleared, Closed, Declined, Draft};
 use crate::settings::Settings;
@@ -15,14 +15,14 @@ use refusal::Refusal;
 
 impl Draft {
     pub fn new(settings: Settings) -> Draft
-        ensures { result.settings ≡ settings }
+        ensures { result ≡ settings }
     {
         Draft { settings }
     }
 
     // Tests the draft against a memory; a declined one comes back unchanged.
     pub fn clear<M: Memory>(self, memory: &M) -> Result<Cleared, Declined>
-        ensures answer { clearing_of result ≡ clearing self.settings (length (M.bytes memory.now)) }
+        ensures answer { clearing_of result ≡ clearing self (length (M.bytes memory.now)) }
         ensures inside { AcceptedInside result }
     {
         let size = memory.size();
@@ -38,7 +38,8 @@ impl Draft {
 
 impl Cleared {
     pub fn begin(self) -> Begun
-        ensures { work_of result ≡ cleared_work self }
+        ensures work { result ≡ self }
+        ensures inside { LiesInside result }
     {
         let Cleared { drawing, size } = self;
         Begun {
@@ -55,28 +56,30 @@ impl Cleared {
 impl Begun {
     // Whether bytes are awaited.
     pub fn awaits(&self) -> bool
-        ensures { result ≡ awaits (work_of self.now) }
+        ensures answer { result ≡ awaits self.now }
+        ensures inside { LiesInside self.now }
     {
         self.drawing.takes(self.progress.drawn)
     }
 
     // Whether pixels can be run.
     pub fn runs(&self) -> bool
-        ensures { result ≡ runs (work_of self.now) }
+        ensures answer { result ≡ runs self.now }
+        ensures inside { LiesInside self.now }
     {
         self.drawing.first.awaited() == 0 && self.progress.drawn < self.drawing.target.pixels()
     }
 
     // How many pixels have been drawn.
     pub fn drawn(&self) -> u32
-        ensures { result ≡ (work_of self.now).drawn }
+        ensures { result ≡ self.now.drawn }
     {
         self.progress.drawn // those that their rule left count too
     }
 
     // Ends the job.
     pub fn close(self) -> Closed
-        ensures { result.drawn ≡ (work_of self).drawn }
+        ensures { result ≡ self.drawn }
     {
         let Begun {
             drawing: _,
@@ -92,7 +95,7 @@ impl Begun {
 impl Closed {
     // How many pixels the job drew.
     pub fn drawn(&self) -> u32
-        ensures { result ≡ self.now.drawn }
+        ensures { result ≡ self.now }
     {
         self.drawn // from its begin to its close
     }
@@ -106,10 +109,10 @@ impl Begun {
         palette: &Palette,
         sent: &[u8],
     ) -> Result<(usize, u32), Refusal>
-        ensures answer { numbered result ≡ feed_answer (work_of self.old) palette.now (M.bytes memory.old) sent.now }
-        ensures memory { M.bytes memory.new ≡ (feed_after (work_of self.old) palette.now (M.bytes memory.old) sent.now).memory }
-        ensures job { work_of self.new ≡ at_stage (work_of self.old) (feed_after (work_of self.old) palette.now (M.bytes memory.old) sent.now) }
-        ensures only { FedOnly (work_of self.old) (numbered result) (M.bytes memory.old) (M.bytes memory.new) }
+        ensures answer { numbered result ≡ feed_answer self.old palette.now (M.bytes memory.old) sent.now }
+        ensures memory { M.bytes memory.new ≡ (feed_after self.old palette.now (M.bytes memory.old) sent.now).memory }
+        ensures job { self.new ≡ at_stage self.old (feed_after self.old palette.now (M.bytes memory.old) sent.now) }
+        ensures only { FedOnly self.old (numbered result) (M.bytes memory.old) (M.bytes memory.new) }
     {
         if memory.size() < self.size {
             return Err(Refusal::PastMemory);
@@ -123,9 +126,9 @@ impl Begun {
     // Draws the next pixels over a memory that is large enough.
     fn draw<M: Memory>(&self, memory: &mut M, palette: &Palette, allowance: u32) -> u32
         requires { self.now.size ≤ length (M.bytes memory.old) }
-        ensures count { result ≡ min allowance (left (work_of self.now)) }
-        ensures after { M.bytes memory.new ≡ painted (plotted (op_at (work_of self.now).plan) palette.now 0) (work_of self.now).drawn result (M.bytes memory.old) }
-        ensures pixels { Ran (work_of self.now) palette.now (Ok result) (M.bytes memory.old) (M.bytes memory.new) }
+        ensures count { result ≡ min allowance (left self.now) }
+        ensures after { M.bytes memory.new ≡ painted (plotted (op_at self.now.plan) palette.now 0) self.now.drawn result (M.bytes memory.old) }
+        ensures pixels { Ran self.now palette.now (Ok result) (M.bytes memory.old) (M.bytes memory.new) }
     {
         self.drawing
             .draw(palette, memory, 0, self.progress.drawn, allowance)
@@ -138,10 +141,10 @@ impl Begun {
         palette: &Palette,
         allowance: u32,
     ) -> Result<u32, Refusal>
-        ensures answer { numbered result ≡ run_answer (work_of self.old) (M.bytes memory.old) allowance }
-        ensures memory { M.bytes memory.new ≡ (run_after (work_of self.old) palette.now (M.bytes memory.old) allowance).memory }
-        ensures job { work_of self.new ≡ at_stage (work_of self.old) (run_after (work_of self.old) palette.now (M.bytes memory.old) allowance) }
-        ensures pixels { Ran (work_of self.old) palette.now (numbered result) (M.bytes memory.old) (M.bytes memory.new) }
+        ensures answer { numbered result ≡ run_answer self.old (M.bytes memory.old) allowance }
+        ensures memory { M.bytes memory.new ≡ (run_after self.old palette.now (M.bytes memory.old) allowance).memory }
+        ensures job { self.new ≡ at_stage self.old (run_after self.old palette.now (M.bytes memory.old) allowance) }
+        ensures pixels { Ran self.old palette.now (numbered result) (M.bytes memory.old) (M.bytes memory.new) }
     {
         if memory.size() < self.size {
             return Err(Refusal::PastMemory);

@@ -1,4 +1,5 @@
-// What a host sets before a start, as the numbers that it writes.
+// What a host sets before a start, as the numbers that it writes. Numbers and no enums: any of them can be written, and which are
+// taken is for the tests of a start to say.
 use colour::Colour;
 
 // An image in memory: its depth or kind, where it lies, how wide it is, and where in it a window begins.

@@ -1,47 +1,19 @@
 // A queue is taken apart before the answers of its picture are looked at.
-use colour::{Colour, Palette};
-use job::{Begun, Draft, Settings, Surface};
+use colour::Palette;
+use job::{Settings, Surface};
 use layers::{Stretch, WriteQueue};
 use memory::{ByteBoard, Memory, WordBoard};
 use refusal::Refusal;
+use samples::{begin, rgb, surface};
 use std::test::Fail;
-
-fn rgb(red: u8, green: u8, blue: u8) -> Colour {
-    Colour { red, green, blue }
-}
-
-// An image at 0.
-fn surface(depth: u8, image: u16) -> Surface {
-    Surface {
-        depth,
-        start: 0,
-        image,
-        left: 0,
-        top: 0,
-    }
-}
 
 // Images 4 wide of 3:3:2, with the raster rule that copies the first source.
 fn settings(operation: u8, width: u16, height: u16) -> Settings {
     Settings {
-        operation,
-        code: 12,
-        large: false,
-        level: 0,
-        first: surface(0, 4),
-        second: surface(0, 4),
-        target: surface(0, 4),
         width,
         height,
         foreground: rgb(1, 2, 3),
-        background: rgb(0, 0, 0),
-    }
-}
-
-fn begin<M: Memory>(memory: &M, settings: Settings) -> Result<Begun, Refusal> {
-    match Draft::new(settings).clear(memory) {
-        Ok(cleared) => Ok(cleared.begin()),
-        Err(declined) => Err(declined.refusal),
+        ..samples::settings(operation, 12, 4)
     }
 }
 
@@ -73,7 +45,7 @@ fn copy_through_stretch_and_queue(rt: HostRuntime) -> Result<(), Fail> {
     let mut pile = Stretch::new(WriteQueue::new(ByteBoard::new(&mut block)), 2, 4);
     let target = Surface {
         left: 1,
-        ..surface(0, 4)
+        ..surface(0, 0, 4)
     };
     let answer = draw(
         &mut pile,
@@ -94,7 +66,7 @@ fn copy_through_stretch_and_queue(rt: HostRuntime) -> Result<(), Fail> {
 fn fill_through_queue_and_stretch(rt: HostRuntime) -> Result<(), Fail> {
     let mut block = [0x1111u16; 15];
     let mut pile = WriteQueue::new(Stretch::new(WordBoard::new(&mut block), 1, 27));
-    let target = surface(2, 3);
+    let target = surface(2, 0, 3);
     let answer = draw(
         &mut pile,
         Settings {
@@ -122,7 +94,7 @@ fn fill_through_queue_and_stretch(rt: HostRuntime) -> Result<(), Fail> {
 fn host_through_queue_and_stretch(rt: HostRuntime) -> Result<(), Fail> {
     let mut block = [0x1111u16, 0x2222];
     let mut pile = WriteQueue::new(Stretch::new(WordBoard::new(&mut block), 1, 2));
-    let first = surface(1, 4);
+    let first = surface(1, 0, 4);
     let answers = feed(
         &mut pile,
         Settings {

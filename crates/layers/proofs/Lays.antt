@@ -1,8 +1,8 @@
 -- What reads and puts do to waiting bytes laid over memory.
 use Rattle.std.proofs.Common.{◌≡◌, ℕ, zero, suc, ◌%◌, ◌<◌, ◌≢◌, List, [], ◌∷◌, ◌++◌, length, get_or, set, sym, refl, ap, ◌∙◌, arith}
-use Rattle.std.proofs.lemmas.List.{length-set, get_or-set_same, get_or-set_other, set-set, set_comm}
+use Rattle.std.proofs.lemmas.List.{length-set, get_or-set_same, get_or-set_other, set_comm}
 use Rattle.layers.specs.declared.pending.Entry.{Entry}
-use Rattle.layers.specs.Entries.{none, entry}
+use Rattle.layers.specs.Entries.{none}
 use Rattle.layers.specs.Laid.{laid}
 use Rattle.layers.specs.Places.{Last, Absent}
 
@@ -43,20 +43,12 @@ laid_last m (e ∷ es) a zero l h =
 laid_last m (e ∷ es) a (suc i) l h =
     laid_last (set m e.address (e.value % 256)) es a i (last_tail e es a i l) (omega (arith, length-set m e.address (e.value % 256)))
 
-laid_set : (m : List ℕ) (es : List Entry) (a x : ℕ) → Absent es a → set (laid m es) a x ≡ laid (set m a x) es
+pub laid_set : (m : List ℕ) (es : List Entry) (a x : ℕ) → Absent es a → set (laid m es) a x ≡ laid (set m a x) es
 unfolding laid
 laid_set m [] a x o = refl
 laid_set m (e ∷ es) a x o =
     laid_set (set m e.address (e.value % 256)) es a x (absent_tail e es a o)
     ∙ ap (λ n. laid n es) (set_comm m e.address a (e.value % 256) x (absent_head e es a o))
-
-pub laid_change : (m : List ℕ) (es : List Entry) (a i v : ℕ) → Last es a i → laid m (set es i (entry a v)) ≡ set (laid m es) a (v % 256)
-unfolding laid
-laid_change m [] a i v l = let z : ⊥ = omega (arith, l.within) in absurd z
-laid_change m (e ∷ es) a zero v l =
-    sym (laid_set (set m e.address (e.value % 256)) es a (v % 256) (last_rest e es a l)
-    ∙ ap (λ x. laid (set (set m x (e.value % 256)) a (v % 256)) es) l.here ∙ ap (λ n. laid n es) (set-set m a (e.value % 256) (v % 256)))
-laid_change m (e ∷ es) a (suc i) v l = laid_change (set m e.address (e.value % 256)) es a i v (last_tail e es a i l)
 
 pub laid_push : (m : List ℕ) (es : List Entry) (e : Entry) → laid m (es ++ e ∷ []) ≡ set (laid m es) e.address (e.value % 256)
 unfolding laid

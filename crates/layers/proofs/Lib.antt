@@ -1,5 +1,5 @@
-pub mod Finds
 pub mod Lays
 pub mod Onces
 pub mod Parts
 pub mod Queues
+pub mod Waits

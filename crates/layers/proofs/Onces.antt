@@ -1,37 +1,33 @@
--- A put leaves each address at most once in the queue.
-use Rattle.std.proofs.Common.{◌≡◌, ℕ, Bool, true, false, cond, eqb, ltb, List, [], ◌∷◌, ◌++◌, length, drop, sym, refl, ap, ◌∙◌, subst}
-use Rattle.std.proofs.lemmas.Bool.{eqb-true, eqb-false, ne_eqb}
+-- Where no address waits twice, none does after an edit of the table.
+use Rattle.std.proofs.Common.{◌≡◌, ℕ, zero, suc, ◌<◌, ◌≢◌, Bool, true, false, cond, eqb, ltb, List, [], ◌∷◌, ◌++◌, length, get_or, drop, set, Option, Some, None, MatchOption, sym, refl, ap, ◌∙◌, ⊎_elim, subst, arith}
+use Rattle.std.proofs.lemmas.Bool.{cases_Bool, eqb-true, eqb-false, ne_eqb}
+use Rattle.std.specs.List.{AllWithin, HoldsAt}
 use Rattle.layers.specs.declared.pending.Entry.{Entry}
-use Rattle.layers.specs.Entries.{entry}
-use Rattle.layers.specs.Queue.{Queue, queue, waits, changed, sent, pushed, taken, queued, Once}
-
-left : (b w : Bool) → cond b true w ≡ true → w ≡ false → b ≡ true
-left true w h q = refl
-left false w h q = sym q ∙ h
-
-neither : (b w : Bool) → cond b true w ≡ false → (b ≡ false) × (w ≡ false)
-neither true true h = (h, h)
-neither true false h = (h, refl)
-neither false w h = (refl, h)
+use Rattle.layers.specs.Entries.{none, entry}
+use Rattle.layers.specs.Places.{Last, Absent}
+use Rattle.layers.specs.Queue.{Queue, waits, changed, sent, pushed, taken, queued, Once}
+use Rattle.layers.proofs.Waits.{left, neither, absent_waits, waits_absent, waits_last, changed_last}
 
 waits_changed : (es : List Entry) (a v b : ℕ) → waits es a ≡ true → waits (changed es a v) b ≡ waits es b
 unfolding waits changed
 waits_changed [] a v b h = refl
-waits_changed (e ∷ es) a v b h = at (waits_changed es a v b) (waits es a) refl
-  where
-    at : (waits es a ≡ true → waits (changed es a v) b ≡ waits es b) → (w : Bool) → waits es a ≡ w → waits (cond w (e ∷ changed es a v) (entry a v ∷ es)) b ≡ cond (eqb e.address b) true (waits es b)
-    at rest true q = ap (cond (eqb e.address b) true) (rest q)
-    at rest false q =
-        ap (λ x. cond (eqb x b) true (waits es b)) (sym (eqb-true e.address a (left (eqb e.address a) (waits es a) h q)))
+waits_changed (e ∷ es) a v b h =
+    ⊎_elim
+    (λ w. rw w (ap (cond (eqb e.address b) true) (waits_changed es a v b w)))
+    (λ w. rw w (ap (λ x. cond (eqb x b) true (waits es b)) (sym (eqb-true e.address a (left (eqb e.address a) (waits es a) h w)))))
+    (cases_Bool (waits es a))
 
 once_changed : (es : List Entry) (a v : ℕ) → waits es a ≡ true → Once es → Once (changed es a v)
 unfolding changed Once
 once_changed [] a v h o = o
-once_changed (e ∷ es) a v h o = at (λ q. once_changed es a v q o.1) (waits es a) refl
-  where
-    at : (waits es a ≡ true → Once (changed es a v)) → (w : Bool) → waits es a ≡ w → Once (cond w (e ∷ changed es a v) (entry a v ∷ es))
-    at rest true q = (waits_changed es a v e.address q ∙ o.0, rest q)
-    at rest false q = (q, o.1)
+once_changed (e ∷ es) a v h o =
+    ⊎_elim
+    (λ w. rw w (waits_changed es a v e.address w ∙ o.0, once_changed es a v w o.1))
+    (λ w. rw w (w, o.1))
+    (cases_Bool (waits es a))
+
+pub once_set : (es : List Entry) (i : ℕ) (e : Entry) → Last es e.address i → Once es → Once (set es i e)
+once_set es i e l o = subst Once (sym (changed_last es e.address i e.value l)) (once_changed es e.address e.value (waits_last es e.address i l) o)
 
 waits_pushed : (es : List Entry) (e : Entry) (b : ℕ) → waits es b ≡ false → eqb e.address b ≡ false → waits (es ++ e ∷ []) b ≡ false
 unfolding waits
@@ -49,34 +45,47 @@ once_pushed (x ∷ es) e h o =
       once_pushed es e p.1 o.1,
     )
 
+pub once_push : (es : List Entry) (e : Entry) → Absent es e.address → Once es → Once (es ++ e ∷ [])
+once_push es e o = once_pushed es e (waits_absent es e.address o)
+
+pub once_none : Once []
+unfolding Once
+once_none = tt
+
+pub once_drop : (es : List Entry) → Once es → Once (drop 1 es)
+unfolding Once
+once_drop [] o = o
+once_drop (e ∷ es) o = o.1
+
+once_later : (es : List Entry) (i k : ℕ) → Once es → i < k → k < length es → (get_or es k none).address ≢ (get_or es i none).address
+unfolding Once
+once_later [] i k o h l q = omega (arith, l)
+once_later (e ∷ es) i zero o h l q = omega (arith, h)
+once_later (e ∷ es) zero (suc k) o h l q = absent_waits es e.address o.0 k (omega (arith, l)) q
+once_later (e ∷ es) (suc i) (suc k) o h l q = once_later es i k o.1 (omega (arith, h)) (omega (arith, l)) q
+
+-- the first entry for an address is its last
+pub last_first : (es : List Entry) (a : ℕ) (r : Option ℕ) → Once es
+    → MatchOption r (AllWithin (λ e. e.address ≢ a) es 0 (length es)) (λ i. (i < length es) × HoldsAt (λ e. e.address ≡ a) es i × AllWithin (λ e. e.address ≢ a) es 0 i)
+    → MatchOption r (Absent es a) (λ i. Last es a i)
+last_first es a None o f = λ k l. f k none (omega arith) l
+last_first es a (Some i) o f = record { within = f.0; here = f.1 none; later = λ k h l q. once_later es i k o h l (q ∙ sym (f.1 none)) }
+
 waits_dropped : (es : List Entry) (a : ℕ) → waits es a ≡ false → waits (drop 1 es) a ≡ false
 unfolding waits
 waits_dropped [] a h = h
 waits_dropped (e ∷ es) a h = (neither (eqb e.address a) (waits es a) h).1
 
-once_dropped : (es : List Entry) → Once es → Once (drop 1 es)
-unfolding Once
-once_dropped [] o = o
-once_dropped (e ∷ es) o = o.1
-
+-- the rule of a put keeps it
 module _ (q : Queue) (a v : ℕ) (o : Once q.entries) where
-  last_in : (b : Bool) → waits q.entries a ≡ false → Once (cond b (pushed q a v) (pushed (sent q) a v)).entries
-  last_in true h = once_pushed q.entries (entry a v) h o
-  last_in false h = once_pushed (drop 1 q.entries) (entry a v) (waits_dropped q.entries a h) (once_dropped q.entries o)
+  once_last : (b : Bool) → waits q.entries a ≡ false → Once (cond b (pushed q a v) (pushed (sent q) a v)).entries
+  once_last true h = once_pushed q.entries (entry a v) h o
+  once_last false h = once_pushed (drop 1 q.entries) (entry a v) (waits_dropped q.entries a h) (once_drop q.entries o)
 
-  once_kept : (w : Bool) → waits q.entries a ≡ w
-      → Once (cond w (queue q.below (changed q.entries a v)) (cond (ltb (length q.entries) 16) (pushed q a v) (pushed (sent q) a v))).entries
-  once_kept true h = once_changed q.entries a v h o
-  once_kept false h = last_in (ltb (length q.entries) 16) h
-
-  once_taken : (b : Bool) → Once (cond b (taken q a v) q).entries
+  once_taken : Once (taken q a v).entries
   unfolding taken
-  once_taken true = once_kept (waits q.entries a) refl
-  once_taken false = o
+  once_taken = ⊎_elim (λ h. rw h (once_changed q.entries a v h o)) (λ h. rw h (once_last (ltb (length q.entries) 16) h)) (cases_Bool (waits q.entries a))
 
   pub once_queued : Once (queued q a v).entries
   unfolding queued
-  once_queued = once_taken (ltb a (length q.below))
-
-pub once_after : (q q' : Queue) (a v : ℕ) → q' ≡ queued q a v → Once q.entries → Once q'.entries
-once_after q q' a v e o = subst (λ x. Once x.entries) (sym e) (once_queued q a v o)
+  once_queued = ⊎_elim (λ h. rw h once_taken) (λ h. rw h o) (cases_Bool (ltb a (length q.below)))

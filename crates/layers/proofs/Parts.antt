@@ -1,6 +1,6 @@
 -- A read and a put of a part are those of the memory below, from the start on.
-use Rattle.std.proofs.Common.{◌≡◌, ℕ, ◌+◌, ◌<◌, ◌≤◌, ltb, List, length, set, Ok, sym, ap, ◌∙◌, arith}
-use Rattle.std.proofs.lemmas.Bool.{lt-ltb, le-ltb, cond-true, cond-false}
+use Rattle.std.proofs.Common.{◌≡◌, ℕ, ◌+◌, ◌<◌, ◌≤◌, List, length, set, Ok, sym, refl, ap, ◌∙◌, arith}
+use Rattle.std.proofs.lemmas.Bool.{lt-ltb, le-ltb}
 use Rattle.memory.specs.Bytes.{read_at, put_at}
 use Rattle.layers.specs.Part.{part, part_length, part_at, put_under}
 use Rattle.memory.proofs.Access.{read_in, put_in}
@@ -18,10 +18,8 @@ module _ (m : List ℕ) (start most a : ℕ) (h : a < length (part m start most)
 
 pub under_in : (m : List ℕ) (start most a v : ℕ) → a < length (part m start most) → set m (start + a) v ≡ put_under m start most a v
 unfolding put_under
-under_in m start most a v h =
-    sym (cond-true (ltb a (length (part m start most))) (set m (start + a) v) m (lt-ltb a (length (part m start most)) h))
+under_in m start most a v h = rw (lt-ltb a (length (part m start most)) h) refl
 
 pub under_past : (m : List ℕ) (start most a v : ℕ) → length (part m start most) ≤ a → m ≡ put_under m start most a v
 unfolding put_under
-under_past m start most a v h =
-    sym (cond-false (ltb a (length (part m start most))) (set m (start + a) v) m (le-ltb a (length (part m start most)) h))
+under_past m start most a v h = rw (le-ltb a (length (part m start most)) h) refl

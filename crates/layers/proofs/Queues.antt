@@ -1,62 +1,34 @@
--- The cases of a put to a write queue, and what each leaves of what the queue shows.
-use Rattle.std.proofs.Common.{◌≡◌, ℕ, zero, suc, ◌%◌, ◌<◌, ◌≤◌, Bool, true, false, cond, eqb, ltb, List, [], ◌∷◌, length, get_or, take, drop, set, sym, refl, ap, ◌∙◌, arith}
-use Rattle.std.proofs.lemmas.Bool.{lt-ltb, le-ltb, eq-eqb, ne_eqb, cond-true, cond-false}
+-- The cases of a put to a write queue, and what it leaves of what the queue shows.
+use Rattle.std.proofs.Common.{◌≡◌, ℕ, ◌%◌, ◌<◌, ◌≤◌, Bool, true, false, cond, ltb, List, [], ◌∷◌, length, get_or, take, drop, set, refl, ap, ◌∙◌, ⊎_elim, mod-eq_of_lt, arith}
+use Rattle.std.proofs.lemmas.Bool.{cases_Bool, lt-ltb, le-ltb}
 use Rattle.layers.specs.declared.pending.Entry.{Entry}
 use Rattle.layers.specs.Entries.{none, entry}
 use Rattle.layers.specs.Laid.{laid}
 use Rattle.layers.specs.Places.{Last, Absent}
-use Rattle.layers.specs.Queue.{Queue, queue, waits, changed, sent, pushed, taken, queued}
-use Rattle.layers.proofs.Lays.{absent_head, absent_tail, last_tail, last_rest}
-
-waits_absent : (es : List Entry) (a : ℕ) → Absent es a → waits es a ≡ false
-unfolding waits
-waits_absent [] a o = refl
-waits_absent (e ∷ es) a o = cond-false (eqb e.address a) true (waits es a) (ne_eqb e.address a (absent_head e es a o)) ∙ waits_absent es a (absent_tail e es a o)
-
-either : (b c : Bool) → c ≡ true → cond b true c ≡ true
-either true c h = refl
-either false c h = h
-
-waits_last : (es : List Entry) (a i : ℕ) → Last es a i → waits es a ≡ true
-unfolding waits
-waits_last [] a i l = let z : ⊥ = omega (arith, l.within) in absurd z
-waits_last (e ∷ es) a zero l = cond-true (eqb e.address a) true (waits es a) (eq-eqb e.address a l.here)
-waits_last (e ∷ es) a (suc i) l = either (eqb e.address a) (waits es a) (waits_last es a i (last_tail e es a i l))
-
-changed_last : (es : List Entry) (a i v : ℕ) → Last es a i → set es i (entry a v) ≡ changed es a v
-unfolding changed
-changed_last [] a i v l = refl
-changed_last (e ∷ es) a zero v l = sym (cond-false (waits es a) (e ∷ changed es a v) (entry a v ∷ es) (waits_absent es a (last_rest e es a l)))
-changed_last (e ∷ es) a (suc i) v l =
-    let rest = last_tail e es a i l in
-    ap (λ xs. e ∷ xs) (changed_last es a i v rest) ∙ sym (cond-true (waits es a) (e ∷ changed es a v) (entry a v ∷ es) (waits_last es a i rest))
+use Rattle.layers.specs.Queue.{Queue, queue, over, waits, sent, pushed, taken, queued}
+use Rattle.layers.proofs.Lays.{laid_push}
+use Rattle.layers.proofs.Waits.{waits_absent, waits_last, changed_last, laid_changed}
 
 module _ (q : Queue) (a v : ℕ) where
+  pub taken_changed : (i : ℕ) → Last q.entries a i → queue q.below (set q.entries i (entry a v)) ≡ taken q a v
+  unfolding taken
+  taken_changed i l = rw (waits_last q.entries a i l) (ap (queue q.below) (changed_last q.entries a i v l))
+
+  pub taken_room : Absent q.entries a → length q.entries < 16 → pushed q a v ≡ taken q a v
+  unfolding taken
+  taken_room o room = rw (waits_absent q.entries a o, lt-ltb (length q.entries) 16 room) refl
+
+  pub taken_full : Absent q.entries a → 16 ≤ length q.entries → pushed (sent q) a v ≡ taken q a v
+  unfolding taken
+  taken_full o full = rw (waits_absent q.entries a o, le-ltb (length q.entries) 16 full) refl
+
+  pub queued_in : a < length q.below → taken q a v ≡ queued q a v
+  unfolding queued
+  queued_in h = rw (lt-ltb a (length q.below) h) refl
+
   pub queued_past : length q.below ≤ a → q ≡ queued q a v
   unfolding queued
-  queued_past h = sym (cond-false (ltb a (length q.below)) (taken q a v) q (le-ltb a (length q.below) h))
-
-  within : a < length q.below → taken q a v ≡ queued q a v
-  unfolding queued
-  within h = sym (cond-true (ltb a (length q.below)) (taken q a v) q (lt-ltb a (length q.below) h))
-
-  pub queued_changed : (i : ℕ) → a < length q.below → Last q.entries a i → queue q.below (set q.entries i (entry a v)) ≡ queued q a v
-  unfolding taken
-  queued_changed i h l =
-      ap (queue q.below) (changed_last q.entries a i v l)
-      ∙ sym (cond-true (waits q.entries a) (queue q.below (changed q.entries a v)) _ (waits_last q.entries a i l)) ∙ within h
-
-  pub queued_room : a < length q.below → Absent q.entries a → length q.entries < 16 → pushed q a v ≡ queued q a v
-  unfolding taken
-  queued_room h o room =
-      sym (cond-false (waits q.entries a) _ _ (waits_absent q.entries a o) ∙ cond-true (ltb (length q.entries) 16) (pushed q a v) (pushed (sent q) a v) (lt-ltb (length q.entries) 16 room))
-      ∙ within h
-
-  pub queued_full : a < length q.below → Absent q.entries a → 16 ≤ length q.entries → pushed (sent q) a v ≡ queued q a v
-  unfolding taken
-  queued_full h o full =
-      sym (cond-false (waits q.entries a) _ _ (waits_absent q.entries a o) ∙ cond-false (ltb (length q.entries) 16) (pushed q a v) (pushed (sent q) a v) (le-ltb (length q.entries) 16 full))
-      ∙ within h
+  queued_past h = rw (le-ltb a (length q.below) h) refl
 
 pub laid_oldest : (m : List ℕ) (es : List Entry) → 0 < length es → laid m (take 1 es) ≡ set m (get_or es 0 none).address ((get_or es 0 none).value % 256)
 unfolding laid
@@ -72,3 +44,20 @@ pub emptied : (m : List ℕ) (es : List Entry) → length es ≡ 0 → queue m e
 unfolding laid
 emptied m [] h = refl
 emptied m (e ∷ es) h = let z : ⊥ = omega arith in absurd z
+
+-- what the queue shows after a put within memory
+module _ (q : Queue) (a v : ℕ) where
+  over_pushed : over (pushed q a v) ≡ set (over q) a (v % 256)
+  over_pushed = laid_push q.below q.entries (entry a v)
+
+module _ (q : Queue) (a v : ℕ) where
+  over_last : (b : Bool) → over (cond b (pushed q a v) (pushed (sent q) a v)) ≡ set (over q) a (v % 256)
+  over_last true = over_pushed q a v
+  over_last false = over_pushed (sent q) a v ∙ ap (λ m. set m a (v % 256)) (laid_sent q.below q.entries)
+
+  over_taken : over (taken q a v) ≡ set (over q) a (v % 256)
+  unfolding taken
+  over_taken = ⊎_elim (λ h. rw h (laid_changed q.below q.entries a v h)) (λ h. rw h (over_last (ltb (length q.entries) 16))) (cases_Bool (waits q.entries a))
+
+  pub over_after : (q' : Queue) → v < 256 → q' ≡ taken q a v → over q' ≡ set (over q) a v
+  over_after q' h e = ap over e ∙ over_taken ∙ ap (set (over q) a) (mod-eq_of_lt h)

@@ -2,4 +2,5 @@ pub mod Entries
 pub mod Places
 pub mod Laid
 pub mod Queue
+pub mod Table
 pub mod Part

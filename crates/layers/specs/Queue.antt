@@ -1,8 +1,7 @@
 -- What a write queue keeps, and what each of its calls makes of that.
 use Rattle.std.specs.Prelude.{◌≡◌, ℕ, Bool, true, false, cond, List, [], ◌∷◌, ◌++◌, length, take, drop, ◌==◌, nat_lt}
 use Rattle.layers.specs.declared.pending.Entry.{Entry}
-use Rattle.layers.specs.declared.pending.Pending.{Pending}
-use Rattle.layers.specs.Entries.{entry, waiting}
+use Rattle.layers.specs.Entries.{entry}
 use Rattle.layers.specs.Laid.{laid}
 
 -- what the memory below holds, and the puts that wait, the oldest first
@@ -12,9 +11,6 @@ pub record Queue : Type 0 where
 
 abbrev pub queue : List ℕ → List Entry → Queue
 queue m es = record { below = m; entries = es }
-
-abbrev pub state : List ℕ → Pending → Queue
-state m p = queue m (waiting p)
 
 -- what the queue shows
 abbrev pub over : Queue → List ℕ

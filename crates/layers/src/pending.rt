@@ -1,81 +1,98 @@
 // The table of puts that wait, the oldest first.
-ghost use Rattle.std.specs.Prelude.{◌≡◌, ◌<◌, [], ◌∷◌, ◌++◌, length, drop, MatchOption, slice_index_or, slice_set};
-ghost use Rattle.layers.specs.Entries.{none, entry, held, waiting};
+ghost use Rattle.std.specs.Prelude.{◌≡◌, ◌<◌, ◌≤◌, ◌==◌, [], ◌∷◌, ◌++◌, length, drop, MatchOption, slice_index_or, slice_set};
+ghost use Rattle.layers.specs.Entries.{none};
 ghost use Rattle.layers.specs.Places.{Last, Absent};
+ghost use Rattle.layers.specs.Queue.{Once};
 
-#[derive(Clone, Copy)]
+use arrayvec::ArrayVec;
+use std::marker::Model;
+
+#[derive(Clone, Copy, Default)]
 pub struct Entry {
     pub(crate) address: u32,
     pub(crate) value: u8,
 }
 
-// Only the first `count` entries wait. A count past the table's end is read as 16, so no proof has to carry a bound.
 #[derive(Drop)]
 pub struct Pending {
-    pub(crate) entries: [Entry; 16],
-    pub(crate) count: usize,
+    table: ArrayVec<Entry, 16>,
+}
+
+// Clauses see the puts that wait: at most 16, and no two for one address.
+impl Model for Pending {
+    ghost use Rattle.std.specs.Prelude.{◌≤◌, List, length};
+    ghost use Rattle.layers.specs.declared.pending.Entry.{Entry};
+    ghost use Rattle.layers.specs.Queue.{Once};
+
+    ghost Value = { List Entry };
+
+    ghost use Rattle.layers.specs.Table.{waiting};
+
+    ghost view = { waiting };
+
+    ghost invariant = { λ p. (length (waiting p) ≤ 16) × Once (waiting p) };
 }
 
 impl Pending {
-    pub(crate) fn len(&self) -> usize
-        ensures count { result ≡ length (waiting self.now) }
-        ensures table { result ≡ held self.now }
+    pub(crate) fn new() -> Pending
+        ensures { result ≡ [] }
     {
-        let table: &[Entry] = &self.entries;
-        let most = table.len();
-        if self.count < most { self.count } else { most }
-    }
-
-    // The place of the newest entry for an address.
-    pub(crate) fn place(&self, address: u32) -> Option<usize>
-        ensures { MatchOption result (Absent (waiting self.now) address) (λ i. Last (waiting self.now) address i) }
-    {
-        let mut found = None;
-        for i in 0..self.len() {
-            if self.entries[i].address == address {
-                found = Some(i);
-            }
+        Pending {
+            table: ArrayVec::new(),
         }
-        found
     }
 
-    pub(crate) fn address_at(&self, i: usize) -> u32
-        requires { i < length (waiting self.now) }
-        ensures { result ≡ (slice_index_or (waiting self.now) i none).address }
+    pub(crate) fn len(&self) -> usize
+        ensures count { result ≡ length self.now }
+        ensures most { length self.now ≤ 16 }
+        ensures once { Once self.now }
     {
-        self.entries[i].address
+        self.table.len()
     }
 
-    pub(crate) fn value_at(&self, i: usize) -> u8
-        requires { i < length (waiting self.now) }
-        ensures { result ≡ (slice_index_or (waiting self.now) i none).value }
+    pub(crate) fn is_full(&self) -> bool
+        ensures full { result ≡ (length self.now == 16) }
+        ensures most { length self.now ≤ 16 }
     {
-        self.entries[i].value
+        self.table.is_full()
     }
 
-    pub(crate) fn change(&mut self, i: usize, address: u32, value: u8)
-        requires { i < length (waiting self.old) }
-        ensures { waiting self.new ≡ slice_set (waiting self.old) i (entry address value) }
+    // The place of the entry for an address: there is no second one.
+    pub(crate) fn place(&self, address: u32) -> Option<usize>
+        ensures { MatchOption result (Absent self.now address) (λ i. Last self.now address i) }
     {
-        self.entries[i] = Entry { address, value };
+        self.table.iter().position(|entry| entry.address == address)
     }
 
-    pub(crate) fn push(&mut self, address: u32, value: u8)
-        requires { length (waiting self.old) < 16 }
-        ensures { waiting self.new ≡ waiting self.old ++ entry address value ∷ [] }
+    pub(crate) fn at(&self, i: usize) -> Entry
+        requires { i < length self.now }
+        ensures { result ≡ slice_index_or self.now i none }
     {
-        let n = self.len();
-        self.entries[n] = Entry { address, value };
-        self.count = n + 1;
+        self.table[i]
+    }
+
+    // Gives the entry for an address another value, where it stands.
+    pub(crate) fn change(&mut self, i: usize, put: Entry)
+        requires { Last self.old put.address i }
+        ensures { self.new ≡ slice_set self.old i put }
+    {
+        self.table[i] = put;
+    }
+
+    pub(crate) fn push(&mut self, put: Entry)
+        requires room { length self.old < 16 }
+        requires absent { Absent self.old put.address }
+        ensures { self.new ≡ self.old ++ put ∷ [] }
+    {
+        self.table.push(put);
     }
 
     // Takes the oldest entry out.
-    pub(crate) fn shift(&mut self)
-        requires { 0 < length (waiting self.old) }
-        ensures { waiting self.new ≡ drop 1 (waiting self.old) }
+    pub(crate) fn shift(&mut self) -> Entry
+        requires { 0 < length self.old }
+        ensures oldest { result ≡ slice_index_or self.old 0 none }
+        ensures rest { self.new ≡ drop 1 self.old }
     {
-        let n = self.len();
-        self.entries.rotate_left(1);
-        self.count = n - 1;
+        self.table.remove(0)
     }
 }

@@ -7,20 +7,8 @@ ghost use Rattle.layers.specs.Part.{part, part_sound, put_under};
 use memory::Memory;
 use refusal::Refusal;
 
-// How much of `all` bytes lies in a stretch from `start` of at most `most` bytes.
-fn reach(all: u32, start: u32, most: u32) -> u32
-    ensures { (m : List ℕ) → all ≡ length m → result ≡ length (part m start most) }
-{
-    if all < start {
-        0
-    } else if all - start < most {
-        all - start
-    } else {
-        most
-    }
-}
-
-// It has the lesser of `length` and what lies below from `start`; nothing where `start` is past the end below.
+// It has the lesser of `length` and what lies below from `start`; nothing where `start` is past the end below. No model: it hands
+// out the memory itself.
 #[derive(Drop)]
 pub struct Stretch<M> {
     below: M,
@@ -30,7 +18,9 @@ pub struct Stretch<M> {
 
 impl<M: Memory> Stretch<M> {
     pub fn new(below: M, start: u32, length: u32) -> Stretch<M>
-        ensures { (result.below ≡ below) × ((result.start ≡ start) × (result.length ≡ length)) }
+        ensures below { result.below ≡ below }
+        ensures start { result.start ≡ start }
+        ensures length { result.length ≡ length }
     {
         Stretch {
             below,
@@ -59,19 +49,6 @@ impl<M: Memory> Stretch<M> {
     {
         self.start + address
     }
-
-    // Past the end of the stretch nothing is written.
-    fn write(&mut self, address: u32, value: u8)
-        ensures after { part (M.bytes self.new.below) self.new.start self.new.length ≡ slice_set (part (M.bytes self.old.below) self.old.start self.old.length) address value }
-        ensures under { M.bytes self.new.below ≡ put_under (M.bytes self.old.below) self.old.start self.old.length address value }
-        ensures start { self.new.start ≡ self.old.start }
-        ensures length { self.new.length ≡ self.old.length }
-    {
-        if address < self.size() {
-            let place = self.place(address);
-            let _ = self.below.put(place, value);
-        }
-    }
 }
 
 impl<M: Memory> Memory for Stretch<M> {
@@ -80,7 +57,10 @@ impl<M: Memory> Memory for Stretch<M> {
     ghost sound = { λ s. part_sound (M.Memory.bytes s.below) s.start s.length (M.Memory.sound s.below) };
 
     fn size(&self) -> u32 {
-        reach(self.below.size(), self.start, self.length)
+        self.below
+            .size()
+            .saturating_sub(self.start)
+            .min(self.length)
     }
 
     fn read(&self, address: u32) -> Result<u8, Refusal> {
@@ -90,7 +70,7 @@ impl<M: Memory> Memory for Stretch<M> {
         self.below.read(self.place(address))
     }
 
-    // What lies outside the stretch is never written.
+    // What lies outside the stretch is never written: past its end nothing is.
     fn put(&mut self, address: u32, value: u8) -> Result<(), Refusal>
         ensures answer { numbered result ≡ put_at (part (M.Memory.bytes self.old.below) self.old.start self.old.length) address }
         ensures after { part (M.Memory.bytes self.new.below) self.new.start self.new.length ≡ slice_set (part (M.Memory.bytes self.old.below) self.old.start self.old.length) address value }
@@ -98,12 +78,10 @@ impl<M: Memory> Memory for Stretch<M> {
         ensures start { self.new.start ≡ self.old.start }
         ensures length { self.new.length ≡ self.old.length }
     {
-        let size = self.size();
-        self.write(address, value);
-        if address < size {
-            Ok(())
-        } else {
-            Err(Refusal::NoSuchAddress)
+        if address >= self.size() {
+            return Err(Refusal::NoSuchAddress);
         }
+        let place = self.place(address);
+        self.below.put(place, value)
     }
 }

@@ -1,2 +1,3 @@
 pub mod Access
+pub mod Cells
 pub mod Boards

@@ -1,7 +1,7 @@
--- The laws of a view.
-use Rattle.std.specs.Prelude.{◌≡◌, ℕ, ◌%◌, ◌<◌, ◌≤◌, length, ◌≢◌, slice_index, slice_set}
+-- The laws of a view, and that a byte put into memory leaves it sound.
+use Rattle.std.specs.Prelude.{◌≡◌, ℕ, ◌%◌, ◌<◌, ◌≤◌, List, length, ◌≢◌, slice_index, slice_set}
 use Rattle.std.proofs.Common.{sym, ap, ◌∙◌, ⊎_elim, mod-eq_of_lt, zero-add, arith, lit<}
-use Rattle.std.proofs.lemmas.List.{get_or_past, length-set, get_or-set_same, get_or-set_other, ext_get_or}
+use Rattle.std.proofs.lemmas.List.{get_or_past, length-set, get_or-set_same, get_or-set_other, set_past, ext_get_or}
 use Rattle.std.proofs.lemmas.List.FromFn.{length-map-range_with_len, get_or-map-range_with_len}
 use Rattle.std.proofs.lemmas.Bool.{cases_lt, cases_eq}
 use Rattle.memory.specs.Bytes.{Sound, view}
@@ -39,3 +39,15 @@ view_put n f f' a v h fits here there =
     (λ e. rw e (view_mod n f' a h ∙ ap (λ x. x % 256) here ∙ mod-eq_of_lt fits ∙ sym (get_or-set_same (view n f) a v 0 (omega arith))))
     (λ ne. view_mod n f' k q ∙ ap (λ x. x % 256) (there k ne) ∙ sym (get_or-set_other (view n f) a k v 0 ne ∙ view_mod n f k q))
     (cases_eq k a))
+
+pub set_sound : (m : List ℕ) → Sound m → (a v : ℕ) → v < 256 → Sound (slice_set m a v)
+set_sound m s a v h = record {
+  short = omega (arith, s.short, length-set m a v);
+  bytes = λ k. ⊎_elim
+      (λ e. ⊎_elim
+      (λ in'. omega (arith, ap (λ n. slice_index (slice_set m a v) n) e, get_or-set_same m a v 0 in'))
+      (λ past. rw (set_past m a v past) (s.bytes k))
+      (cases_lt a (length m)))
+      (λ ne. rw (get_or-set_other m a k v 0 ne) (s.bytes k))
+      (cases_eq k a);
+}

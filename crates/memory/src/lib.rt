@@ -1,10 +1,11 @@
 // Display memory, and the two boards that a maker can lend to it.
 #![tactic(auto)]
 
-ghost use Rattle.std.specs.Prelude.{◌≡◌, ℕ, ◌+◌, ◌*◌, ◌/◌, ◌%◌, ◌<◌, ◌≤◌, List, length, drop, slice_index, slice_set};
+ghost use Rattle.std.specs.Prelude.{◌≡◌, ℕ, ◌/◌, List, length, drop, slice_set};
 ghost use Rattle.refusal.specs.Numbers.{numbered};
 ghost use Rattle.memory.specs.Bytes.{Sound, read_at, put_at};
-ghost use Rattle.memory.specs.Boards.{half, with_half, of_bytes, of_words, bytes_sound, words_sound};
+ghost use Rattle.memory.specs.Cells.{CellLaws, of_cells, cells_sound};
+ghost use Rattle.memory.specs.Boards.{whole, with_whole, whole_laws, half, with_half, half_laws};
 
 use refusal::Refusal;
 
@@ -22,7 +23,7 @@ pub trait Memory {
     fn read(&self, address: u32) -> Result<u8, Refusal>
         ensures { numbered result ≡ read_at (bytes self.now) address };
 
-    // Past the end `set` changes nothing, so a declined put leaves memory as it was.
+    // Past the end `slice_set` changes nothing, so a declined put leaves memory as it was.
     fn put(&mut self, address: u32, value: u8) -> Result<(), Refusal>
         ensures answer { numbered result ≡ put_at (bytes self.old) address }
         ensures after { bytes self.new ≡ slice_set (bytes self.old) address value };
@@ -31,158 +32,127 @@ pub trait Memory {
 // The most bytes that a memory has.
 const MOST: usize = 16_777_216;
 
-fn byte_at(block: &[u8], place: usize) -> u8
-    requires { place < length block.now }
-    ensures { result ≡ slice_index block.now place }
-{
-    block[place]
+// What a lent block is made of: a byte, or a word of two bytes at addresses in a row.
+pub trait Cell: Copy {
+    // how many bytes are in a cell
+    ghost BYTES: { ℕ };
+
+    // the byte of a cell at an address
+    ghost byte: { Self → ℕ → ℕ };
+
+    // the cell with that byte replaced
+    ghost with_byte: { Self → ℕ → ℕ → Self };
+
+    const BYTES: usize;
+
+    fn byte(self, address: u32) -> u8
+        ensures { result ≡ byte self address };
+
+    fn with_byte(self, address: u32, value: u8) -> Self
+        ensures { result ≡ with_byte self address value };
+
+    // whole cells fill display memory, and a byte is replaced alone
+    ghost laws: { CellLaws BYTES byte with_byte };
 }
 
-// A lent block of bytes, of which at most the first 16,777,216 are display memory.
+impl Cell for u8 {
+    ghost BYTES = { 1 };
+
+    ghost byte = { whole };
+
+    ghost with_byte = { with_whole };
+
+    ghost laws = { whole_laws };
+
+    const BYTES: usize = 1;
+
+    fn byte(self, _address: u32) -> u8 {
+        self
+    }
+
+    fn with_byte(self, _address: u32, value: u8) -> u8 {
+        value
+    }
+}
+
+// At an even address lies a word's low half.
+impl Cell for u16 {
+    ghost BYTES = { 2 };
+
+    ghost byte = { half };
+
+    ghost with_byte = { with_half };
+
+    ghost laws = { half_laws };
+
+    const BYTES: usize = 2;
+
+    fn byte(self, address: u32) -> u8 {
+        self.to_le_bytes()[address as usize % 2]
+    }
+
+    fn with_byte(self, address: u32, value: u8) -> u16 {
+        let mut bytes = self.to_le_bytes();
+        bytes[address as usize % 2] = value;
+        u16::from_le_bytes(bytes)
+    }
+}
+
+// A lent block of cells, of which at most the first 16,777,216 bytes are display memory. Boards and layers have no model: they hand
+// out the block or the memory itself, which the bytes that they show do not tell.
 #[derive(Drop)]
-pub struct ByteBoard<'a> {
-    block: &'a mut [u8],
+pub struct Board<'a, C: Cell> {
+    block: &'a mut [C],
 }
 
-impl<'a> ByteBoard<'a> {
-    pub fn new(block: &'a mut [u8]) -> ByteBoard<'a>
+pub type ByteBoard<'a> = Board<'a, u8>;
+
+pub type WordBoard<'a> = Board<'a, u16>;
+
+impl<'a, C: Cell> Board<'a, C> {
+    pub fn new(block: &'a mut [C]) -> Board<'a, C>
         ensures { result.block.now ≡ block.old }
     {
-        ByteBoard { block }
+        Board { block }
     }
 
     // Hands the block back as it then is.
-    pub fn into_block(self) -> &'a mut [u8]
+    pub fn into_block(self) -> &'a mut [C]
         ensures { result.now ≡ self.entry.block.now }
     {
-        let ByteBoard { block } = self;
+        let Board { block } = self;
         block
     }
 }
 
-impl Memory for ByteBoard<'_> {
-    ghost bytes = { λ b. of_bytes b.block.now };
+impl<C: Cell> Memory for Board<'_, C> {
+    ghost bytes = { λ b. of_cells C.BYTES C.byte b.block.now };
 
-    ghost sound = { λ b. bytes_sound b.block.now };
+    ghost sound = { λ b. cells_sound C.BYTES C.byte b.block.now };
 
     fn size(&self) -> u32 {
-        let count = self.block.len();
-        if count < MOST {
-            count as u32
-        } else {
-            MOST as u32
-        }
+        let cells = self.block.len().min(MOST / C::BYTES);
+        (C::BYTES * cells) as u32
     }
 
     fn read(&self, address: u32) -> Result<u8, Refusal> {
         if address >= self.size() {
             return Err(Refusal::NoSuchAddress);
         }
-        Ok(byte_at(self.block, address as usize))
+        Ok(self.block[address as usize / C::BYTES].byte(address))
     }
 
     // What lies past the display memory is never written.
     fn put(&mut self, address: u32, value: u8) -> Result<(), Refusal>
-        ensures answer { numbered result ≡ put_at (of_bytes self.old.block.now) address }
-        ensures after { of_bytes self.new.block.now ≡ slice_set (of_bytes self.old.block.now) address value }
-        ensures rest { drop 16777216 self.new.block.now ≡ drop 16777216 self.old.block.now }
+        ensures answer { numbered result ≡ put_at (of_cells C.BYTES C.byte self.old.block.now) address }
+        ensures after { of_cells C.BYTES C.byte self.new.block.now ≡ slice_set (of_cells C.BYTES C.byte self.old.block.now) address value }
+        ensures rest { drop (16777216 / C.BYTES) self.new.block.now ≡ drop (16777216 / C.BYTES) self.old.block.now }
     {
         if address >= self.size() {
             return Err(Refusal::NoSuchAddress);
         }
-        self.block[address as usize] = value;
-        Ok(())
-    }
-}
-
-// The byte of a word at an address: the low half at an even one.
-fn half_of(word: u16, address: u32) -> u8
-    ensures { result ≡ half word address }
-{
-    if address % 2 == 0 {
-        (word % 256) as u8
-    } else {
-        (word / 256) as u8
-    }
-}
-
-fn with_half(word: u16, address: u32, value: u8) -> u16
-    ensures { result ≡ with_half word address value }
-{
-    if address % 2 == 0 {
-        word / 256 * 256 + value as u16
-    } else {
-        value as u16 * 256 + word % 256
-    }
-}
-
-fn word_at(block: &[u16], place: usize) -> u16
-    requires { place < length block.now }
-    ensures { result ≡ slice_index block.now place }
-{
-    block[place]
-}
-
-fn put_half(block: &mut [u16], address: u32, value: u8)
-    requires { address / 2 < length block.old }
-    ensures { block.new ≡ slice_set block.old (address / 2) (with_half (slice_index block.old (address / 2)) address value) }
-{
-    let place = (address / 2) as usize;
-    block[place] = with_half(block[place], address, value);
-}
-
-// A lent block of 16-bit words, of which at most the first 8,388,608 are display memory.
-#[derive(Drop)]
-pub struct WordBoard<'a> {
-    block: &'a mut [u16],
-}
-
-impl<'a> WordBoard<'a> {
-    pub fn new(block: &'a mut [u16]) -> WordBoard<'a>
-        ensures { result.block.now ≡ block.old }
-    {
-        WordBoard { block }
-    }
-
-    // Hands the block back as it then is.
-    pub fn into_block(self) -> &'a mut [u16]
-        ensures { result.now ≡ self.entry.block.now }
-    {
-        let WordBoard { block } = self;
-        block
-    }
-}
-
-impl Memory for WordBoard<'_> {
-    ghost bytes = { λ b. of_words b.block.now };
-
-    ghost sound = { λ b. words_sound b.block.now };
-
-    fn size(&self) -> u32 {
-        let count = self.block.len();
-        if count < MOST / 2 {
-            2 * count as u32
-        } else {
-            MOST as u32
-        }
-    }
-
-    fn read(&self, address: u32) -> Result<u8, Refusal> {
-        if address >= self.size() {
-            return Err(Refusal::NoSuchAddress);
-        }
-        Ok(half_of(word_at(self.block, (address / 2) as usize), address))
-    }
-
-    fn put(&mut self, address: u32, value: u8) -> Result<(), Refusal>
-        ensures answer { numbered result ≡ put_at (of_words self.old.block.now) address }
-        ensures after { of_words self.new.block.now ≡ slice_set (of_words self.old.block.now) address value }
-        ensures rest { drop 8388608 self.new.block.now ≡ drop 8388608 self.old.block.now }
-    {
-        if address >= self.size() {
-            return Err(Refusal::NoSuchAddress);
-        }
-        put_half(self.block, address, value);
+        let cell = &mut self.block[address as usize / C::BYTES];
+        *cell = cell.with_byte(address, value);
         Ok(())
     }
 }

@@ -45,14 +45,12 @@ impl PaletteLoad {
         ensures taken { result ≡ bytes_taken (loading palette.old self.old) sent.now }
         ensures parts { LoadInParts }
     {
-        let mut taken = 0;
-        for byte in sent {
+        for (taken, byte) in sent.iter().enumerate() {
             if !self.awaits() {
-                break;
+                return taken;
             }
             self.accept(palette, *byte);
-            taken += 1;
         }
-        taken
+        sent.len()
     }
 }

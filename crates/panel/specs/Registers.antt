@@ -1,13 +1,20 @@
 -- The register file.
-use Rattle.std.specs.Prelude.{ℕ, ◌+◌, ◌*◌, ◌/◌, ◌%◌, Bool, ◌&&◌, ◌||◌, List, ◌==◌, nat_le, slice_index}
+use Rattle.std.specs.Prelude.{◌≡◌, ℕ, ◌+◌, ◌*◌, ◌/◌, ◌%◌, Bool, cond, ◌&&◌, ◌||◌, List, Ok, Err, Result, ◌==◌, nat_le, slice_index}
+use Rattle.refusal.specs.declared.Refusal.{Refusal}
+use Rattle.refusal.specs.declared.Refusal.TheVariants.{NoSuchRegister}
 use Rattle.colour.specs.declared.Colour.{Colour}
 use Rattle.colour.specs.Channels.{rgb}
 use Rattle.job.specs.declared.settings.Settings.{Settings}
 use Rattle.job.specs.declared.settings.Surface.{Surface}
+use Rattle.panel.specs.declared.register.Register.{Register}
 
 -- 03h, 90h to B5h and D2h to D7h
 abbrev pub exists : ℕ → Bool
 exists r = r == 0x03 || ((nat_le 0x90 r && nat_le r 0xB5) || (nat_le 0xD2 r && nat_le r 0xD7))
+
+-- the register with a number, if there is one
+abbrev pub FindsRegister : ℕ → Result Register Refusal → Type 0
+FindsRegister n r = r ≡ cond (exists n) (Ok (record { number = n })) (Err NoSuchRegister)
 
 -- a number of two bytes, low byte first
 abbrev pub two : List ℕ → ℕ → ℕ

@@ -1,4 +1,4 @@
-// What is under way.
+// What is under way: the four states of a panel, each named, and so no Option of what is under way.
 use job::Begun;
 
 #[derive(Drop)]

@@ -1,31 +1,24 @@
 // The calls of a panel.
-ghost use Rattle.std.specs.Prelude.{◌≡◌, ℕ, ◌+◌, ◌<◌, Bool, length};
+ghost use Rattle.std.specs.Prelude.{◌≡◌};
 ghost use Rattle.refusal.specs.Numbers.{numbered};
 ghost use Rattle.memory.specs.Bytes.{read_at};
-ghost use Rattle.job.specs.Works.{work_of, clearing};
-ghost use Rattle.panel.specs.Registers.{settings_of};
-ghost use Rattle.panel.specs.State.{idle, seen, fresh, busy, doing_of, kept, written, started_in, under_way, still_drawing, with_register, answer_of, after_of, with_doing, register_read, run_answer, run_after, stop_answer, status_of};
+ghost use Rattle.panel.specs.State.{seen, fresh, busy, kept, written, started, under_way, answer_of, after_of, register_read, run_answer, run_after, stop_answer, stopped, status_of};
 
 use crate::activity::Activity;
 use crate::panel::Panel;
+use crate::register::{CONTROL, PALETTE, Register};
 use crate::registers::Registers;
 use colour::Palette;
 use job::{Begun, Draft};
 use memory::Memory;
 use refusal::Refusal;
-use std::mem;
-
-// The register whose bit 4 starts an operation, and the one that opens a palette load.
-const CONTROL: u8 = 0x90;
-
-const PALETTE: u8 = 0x03;
 
 const BUSY: u8 = 0x5C;
 
 const READY: u8 = 0x54;
 
-fn stored_value(register: u8, value: u8) -> u8
-    ensures { result ≡ kept register value }
+fn stored_value(register: Register, value: u8) -> u8
+    ensures { result ≡ kept register.number value }
 {
     if register == CONTROL {
         value & 0xEF
@@ -36,24 +29,12 @@ fn stored_value(register: u8, value: u8) -> u8
 
 // The host serves an operation that was begun, or memory does.
 fn under_way(begun: Begun) -> Activity
-    ensures { doing_of result ≡ under_way (work_of begun) }
+    ensures { result ≡ under_way begun }
 {
     if begun.awaits() {
         Activity::Awaiting(begun)
     } else {
         Activity::Drawing(begun)
-    }
-}
-
-// An operation ends with its last pixel.
-fn still_drawing(begun: Begun) -> Activity
-    ensures { doing_of result ≡ still_drawing (work_of begun) }
-{
-    if begun.runs() {
-        Activity::Drawing(begun)
-    } else {
-        let _ = begun.close();
-        Activity::Idle
     }
 }
 
@@ -84,37 +65,29 @@ impl<M: Memory> Panel<M> {
     }
 
     fn is_busy(&self) -> bool
-        ensures { result ≡ busy (doing_of self.now.activity) }
+        ensures { result ≡ busy self.now.activity }
     {
-        match self.activity {
-            Activity::Idle => false,
-            Activity::Drawing(_) | Activity::Awaiting(_) | Activity::PaletteLoad => true,
-        }
+        !matches!(self.activity, Activity::Idle)
     }
 
     // Starts an operation by a write of 90h.
     fn start(&mut self, value: u8) -> Result<(), Refusal>
-        ensures answer { numbered result ≡ answer_of (started_in (with_register (seen M.bytes self.old) 0x90 value) (clearing (settings_of self.old.registers.places value) (length (M.bytes self.old.memory)))) }
-        ensures after { seen M.bytes self.new ≡ after_of (seen M.bytes self.old) (started_in (with_register (seen M.bytes self.old) 0x90 value) (clearing (settings_of self.old.registers.places value) (length (M.bytes self.old.memory)))) }
+        ensures answer { numbered result ≡ answer_of (started (seen M.bytes self.old) 0x90 value) }
+        ensures after { seen M.bytes self.new ≡ after_of (seen M.bytes self.old) (started (seen M.bytes self.old) 0x90 value) }
     {
-        match Draft::new(self.registers.settings(value)).clear(&self.memory) {
-            Ok(cleared) => {
-                let begun = cleared.begin();
-                self.registers.set(CONTROL, stored_value(CONTROL, value));
-                self.activity = under_way(begun);
-                Ok(())
-            }
-            Err(declined) => Err(declined.refusal),
-        }
+        let draft = Draft::new(self.registers.settings(value));
+        let begun = draft.clear(&self.memory)?.begin();
+        self.registers.set(CONTROL, stored_value(CONTROL, value));
+        self.activity = under_way(begun);
+        Ok(())
     }
 
+    // A host's bus carries any number, so which registers exist is asked here.
     pub fn write(&mut self, register: u8, value: u8) -> Result<(), Refusal>
         ensures answer { numbered result ≡ answer_of (written (seen M.bytes self.old) register value) }
         ensures after { seen M.bytes self.new ≡ after_of (seen M.bytes self.old) (written (seen M.bytes self.old) register value) }
     {
-        if !Registers::exists(register) {
-            return Err(Refusal::NoSuchRegister);
-        }
+        let register = Register::try_from(register)?;
         if self.is_busy() {
             return Err(Refusal::Busy);
         }
@@ -131,9 +104,7 @@ impl<M: Memory> Panel<M> {
     pub fn read(&self, register: u8) -> Result<u8, Refusal>
         ensures { numbered result ≡ register_read (seen M.bytes self.now) register }
     {
-        if !Registers::exists(register) {
-            return Err(Refusal::NoSuchRegister);
-        }
+        let register = Register::try_from(register)?;
         let value = self.registers.value(register);
         match self.activity {
             Activity::Drawing(_) | Activity::Awaiting(_) if register == CONTROL => Ok(value | 0x10),
@@ -141,37 +112,25 @@ impl<M: Memory> Panel<M> {
         }
     }
 
-    // Draws as many pixels as are allowed and left of the operation under way.
+    // Draws as many pixels as are allowed and left of the operation under way, which ends with its last pixel.
     pub fn run(&mut self, pixels: u32) -> Result<u32, Refusal>
         ensures answer { numbered result ≡ run_answer (seen M.bytes self.old) (seen M.bytes self.old).doing pixels }
         ensures after { seen M.bytes self.new ≡ run_after (seen M.bytes self.old) (seen M.bytes self.old).doing pixels }
     {
-        match mem::replace(&mut self.activity, Activity::Idle) {
-            Activity::Drawing(mut begun) => match begun.run(
-                &mut self.memory,
-                &self.palette,
-                pixels,
-            ) {
-                Ok(count) => {
-                    self.activity = still_drawing(begun);
-                    Ok(count)
-                }
-                Err(refusal) => {
-                    self.activity = Activity::Drawing(begun);
-                    Err(refusal)
-                }
-            },
-            other => {
-                self.activity = other;
-                Err(Refusal::NothingToRun)
-            }
+        let Activity::Drawing(begun) = &mut self.activity else {
+            return Err(Refusal::NothingToRun);
+        };
+        let count = begun.run(&mut self.memory, &self.palette, pixels)?;
+        if !begun.runs() {
+            self.activity = Activity::Idle;
         }
+        Ok(count)
     }
 
     // Ends what is under way, and answers the pixels that it drew.
     pub fn stop(&mut self) -> Result<u32, Refusal>
         ensures answer { numbered result ≡ stop_answer (seen M.bytes self.old).doing }
-        ensures after { seen M.bytes self.new ≡ with_doing (seen M.bytes self.old) idle }
+        ensures after { seen M.bytes self.new ≡ stopped (seen M.bytes self.old) }
     {
         let drawn = match &self.activity {
             Activity::Idle => return Err(Refusal::NothingUnderWay),

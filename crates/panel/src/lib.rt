@@ -4,6 +4,7 @@
 mod activity;
 mod calls;
 mod panel;
+mod register;
 mod registers;
 
 pub use panel::Panel;

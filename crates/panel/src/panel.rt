@@ -4,6 +4,7 @@ use crate::registers::Registers;
 use colour::Palette;
 use memory::Memory;
 
+// No model: it would hold the memory, for `into_memory`, and its bytes, for the other calls, and each would have to tie the two.
 #[derive(Drop)]
 pub struct Panel<M: Memory> {
     pub(crate) memory: M,

@@ -2,6 +2,7 @@
 // The calls of a panel as values, with the burst that is to come, and what each answers.
 use refusal::Refusal;
 
+// Registers and addresses are any numbers. A burst borrows its bytes. The bench's `Command` is another type, since a line's burst owns them and its runs have 16 bits.
 #[derive(Clone, Copy)]
 pub enum Call<'a> {
     Write { register: u8, value: u8 },

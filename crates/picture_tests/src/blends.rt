@@ -1,8 +1,9 @@
 // Operations 10 and 11.
-use crate::jobs::{Bursts, check_bytes, check_drawn, check_fed, draw, feed, settings, surface};
+use crate::jobs::{Bursts, check_bytes, check_drawn, check_fed, draw, feed, settings};
 use colour::Palette;
 use job::Settings;
 use memory::{ByteBoard, WordBoard};
+use samples::surface;
 use std::test::Fail;
 
 // Level 16 on (200, 0, 100) and (101, 50, 7): 301 × 16, 50 × 16 and 107 × 16, each div 32: 150, 25 and 53.

@@ -1,8 +1,9 @@
 // Operations 0 and 2.
-use crate::jobs::{Bursts, begin, check_drawn, check_fed, feed, settings, surface};
+use crate::jobs::{Bursts, check_drawn, check_fed, feed, settings};
 use colour::Palette;
 use job::{Settings, Surface};
 use memory::{ByteBoard, WordBoard};
+use samples::{begin, surface};
 use std::test::Fail;
 
 fn one_to_the_right() -> Settings {

@@ -1,6 +1,7 @@
 // Operations 8, 9, 14 and 15.
-use crate::jobs::{Bursts, check_drawn, check_fed, rgb, settings, surface};
+use crate::jobs::{Bursts, check_drawn, check_fed, settings};
 use job::Settings;
+use samples::{rgb, surface};
 use std::test::Fail;
 
 // Units of 8 from bit 5, four pixels a row, so one unit a row: ECh is 11 1011 00 and 07h is 00 0001 11.

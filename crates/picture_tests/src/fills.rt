@@ -1,6 +1,7 @@
 // Operation 12.
-use crate::jobs::{check_drawn, rgb, settings, surface};
+use crate::jobs::{check_drawn, settings};
 use job::{Settings, Surface};
+use samples::{rgb, surface};
 use std::test::Fail;
 
 fn orange() -> Settings {

@@ -1,46 +1,17 @@
 // Jobs from their settings to their last pixel.
-use colour::{Colour, Palette};
-use job::{Begun, Draft, Settings, Surface};
+use colour::Palette;
+use job::Settings;
 use memory::{ByteBoard, Memory};
 use refusal::Refusal;
+use samples::begin;
 use std::process::Abort;
 use std::test::Fail;
-
-pub(crate) fn rgb(red: u8, green: u8, blue: u8) -> Colour {
-    Colour { red, green, blue }
-}
-
-pub(crate) fn surface(depth: u8, start: u32, image: u16) -> Surface {
-    Surface {
-        depth,
-        start,
-        image,
-        left: 0,
-        top: 0,
-    }
-}
 
 // Four pixels of 3:3:2 at 0, all in black, with the raster rule that copies the first source.
 pub(crate) fn settings() -> Settings {
     Settings {
-        operation: 2,
-        code: 12,
-        large: false,
-        level: 0,
-        first: surface(0, 0, 4),
-        second: surface(0, 0, 4),
-        target: surface(0, 0, 4),
         width: 4,
-        height: 1,
-        foreground: rgb(0, 0, 0),
-        background: rgb(0, 0, 0),
-    }
-}
-
-pub(crate) fn begin<M: Memory>(memory: &M, settings: Settings) -> Result<Begun, Refusal> {
-    match Draft::new(settings).clear(memory) {
-        Ok(cleared) => Ok(cleared.begin()),
-        Err(declined) => Err(declined.refusal),
+        ..samples::settings(2, 12, 4)
     }
 }
 
@@ -85,10 +56,8 @@ pub(crate) fn check_bytes<M: Memory>(
     start: u32,
     expected: &[u8],
 ) -> Result<(), Fail> {
-    let mut address = start;
-    for byte in expected {
+    for (address, byte) in (start..=u32::MAX).zip(expected) {
         assert_eq!(rt; memory.read(address)?, *byte);
-        address = address.wrapping_add(1);
     }
     Ok(())
 }

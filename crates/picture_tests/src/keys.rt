@@ -1,6 +1,7 @@
 // Operations 4 and 5.
-use crate::jobs::{Bursts, check_drawn, check_fed, rgb, settings, surface};
+use crate::jobs::{Bursts, check_drawn, check_fed, settings};
 use job::Settings;
+use samples::{rgb, surface};
 use std::test::Fail;
 
 // The background (255, 128, 64) is FC08h in 5:6:5. Of FC08h, F81Fh and FC09h from the host, the first leaves its pixel.

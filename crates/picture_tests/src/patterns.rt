@@ -1,8 +1,9 @@
 // Operations 6 and 7.
-use crate::jobs::{check_bytes, draw, rgb, settings, surface};
+use crate::jobs::{check_bytes, draw, settings};
 use colour::Palette;
 use job::Settings;
 use memory::{ByteBoard, Memory};
+use samples::{rgb, surface};
 use std::test::Fail;
 
 // Puts 0, 1, 2 and so on from address 0 on.

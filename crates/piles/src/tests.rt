@@ -9,10 +9,7 @@ fn byte(answer: Result<u8, Refusal>) -> u16 {
 }
 
 fn done(answer: Result<(), Refusal>) -> u16 {
-    match answer {
-        Ok(()) => 0,
-        Err(refusal) => 1000 + refusal.number() as u16,
-    }
+    byte(answer.map(|()| 0))
 }
 
 fn look<M: Memory>(memory: &M, first: u32, second: u32, third: u32) -> [u16; 3] {
@@ -34,8 +31,8 @@ fn below<M: Memory>(queue: &WriteQueue<M>, first: u32, second: u32) -> [u16; 3] 
 
 // Puts `value` at `start`, one more at the next address, and so on.
 fn put_all<M: Memory>(memory: &mut M, start: u16, end: u16, value: u8) {
-    for i in start..end {
-        let _ = memory.put(i as u32, value.wrapping_add((i % 256) as u8));
+    for address in start..end {
+        let _ = memory.put(address as u32, value.wrapping_add((address % 256) as u8));
     }
 }
 

@@ -3,7 +3,7 @@ use Rattle.std.proofs.Common.{◌≡◌, ℕ, ◌+◌, ◌-◌, ◌*◌, ◌<◌
 use native.Mathlib.Nat.{min-le_left, min-le_right, le-max_left, le-max_right}
 use Rattle.colour.specs.declared.Colour.{Colour}
 use Rattle.colour.specs.Channels.{Channels}
-use Rattle.pixel.specs.Blends.{weighted, blend_channel, blended, Between, BetweenColours}
+use Rattle.pixel.specs.Blends.{weighted, blend_channel, blended, Between}
 
 -- a number as often as both weights say is that number 32 times
 all_weights : (level x : ℕ) → level ≤ 32 → x * level + x * (32 - level) ≡ x * 32
@@ -15,7 +15,7 @@ weighted_low : (level x y z : ℕ) → level ≤ 32 → z ≤ x → z ≤ y → 
 weighted_low level x y z h p q =
     omega (arith, all_weights level z h, mul-le-mul_right level p, mul-le-mul_right (32 - level) q)
 
-pub weighted_high : (level x y z : ℕ) → level ≤ 32 → x ≤ z → y ≤ z → weighted level x y ≤ z * 32
+weighted_high : (level x y z : ℕ) → level ≤ 32 → x ≤ z → y ≤ z → weighted level x y ≤ z * 32
 weighted_high level x y z h p q =
     omega (arith, all_weights level z h, mul-le-mul_right level p, mul-le-mul_right (32 - level) q)
 
@@ -28,13 +28,6 @@ blend_between level x y =
     let low = weighted_low l x y (min x y) h (min-le_left x y) (min-le_right x y) in
     let high = weighted_high l x y (max x y) h (le-max_left x y) (le-max_right x y) in
     record { low = omega arith; high = omega arith }
-
-pub blended_between : (level : ℕ) (c d : Colour) → BetweenColours c d (blended level c d)
-blended_between level c d = record {
-  red = blend_between level c.red d.red;
-  green = blend_between level c.green d.green;
-  blue = blend_between level c.blue d.blue;
-}
 
 blend_lt : (level x y : ℕ) → x < 256 → y < 256 → blend_channel level x y < 256
 blend_lt level x y h k = let high = (blend_between level x y).high in omega arith

@@ -1,93 +1,70 @@
--- A raster rule is the or of four ands, each of which a bit of the rule keeps or drops.
-use Rattle.std.proofs.Common.{◌≡◌, ℕ, zero, suc, ◌+◌, ◌-◌, ◌*◌, ◌/◌, ◌%◌, ◌^◌, ◌<◌, sym, ap, ◌∙◌, one-mul, mul-zero, zero-mul, mul-one, add-one, arith, pow_pos, pow-add}
-use lib.Bits.{bit_and, bit_or, and_block, or_block, and_lt, or_lt, and_le_l, or_zero_l, or_zero_r}
+-- A raster rule is the or of four ands, each of which a bit of the rule keeps or drops: they agree in each bit.
+use Rattle.std.proofs.Common.{◌≡◌, ℕ, zero, suc, ◌-◌, ◌*◌, ◌/◌, ◌%◌, ◌^◌, ◌<◌, min, max, sym, ◌∙◌, one-mul, zero-mul, arith, pow_pos, pow-suc}
+use Rattle.std.specs.Int.{bit_at}
+use Rattle.std.proofs.lemmas.Nat.{or_lt}
+use Rattle.std.proofs.lemmas.Nat.Bits.{bit_at_lowest, bit_at-suc, bit_at-zero, bit_at_and, bit_at_or, bit_at-lt, same_from_bits_below}
+use lib.Bits.{bit_and, bit_or, and_lt}
+use Rattle.colour.proofs.Bits.{turned, turned_lt, turned_bit, two_bits}
 use Rattle.pixel.specs.Rasters.{chosen, raster_bits}
 
-abbrev comp : ℕ → ℕ → ℕ
-comp n x = 2 ^ n - 1 - x
+pub raster_lt : (n rule x y : ℕ) → raster_bits n rule x y < 2 ^ n
+unfolding raster_bits
+raster_lt zero rule x y = omega arith
+raster_lt (suc n) rule x y = omega (arith, pow-suc 2 n, raster_lt n rule (x / 2) (y / 2))
 
-pub double : (n : ℕ) → 2 ^ suc n ≡ 2 ^ n * 2
-double n = ap (λ k. 2 ^ k) (sym (add-one n)) ∙ pow-add 2 n 1
+-- each bit of the result is the one that the bits of the sources choose
+pub raster_bit : (n rule x y i : ℕ) → i < n → bit_at (raster_bits n rule x y) i ≡ chosen rule (bit_at x i) (bit_at y i)
+unfolding raster_bits
+raster_bit zero rule x y i h = absurd (omega arith)
+raster_bit (suc n) rule x y zero h = rw (bit_at_lowest (raster_bits (suc n) rule x y), bit_at_lowest x, bit_at_lowest y) (omega arith)
+raster_bit (suc n) rule x y (suc i) h =
+    let rest : raster_bits (suc n) rule x y / 2 ≡ raster_bits n rule (x / 2) (y / 2) = omega arith in
+    rw (bit_at-suc (raster_bits (suc n) rule x y), rest, bit_at-suc x, bit_at-suc y) (raster_bit n rule (x / 2) (y / 2) i (omega arith))
 
--- x has the lowest bit r, above which a stands
-record Split (n x a r : ℕ) : Type 0 where
-  is : x ≡ a * 2 + r
-  high : a < 2 ^ n
-  low : r < 2
+-- a number that a bit keeps or drops
+kept_lt : (n k x : ℕ) → k < 2 → x < 2 ^ n → k * x < 2 ^ n
+kept_lt n zero x h p = omega (arith, zero-mul x, pow_pos n)
+kept_lt n (suc zero) x h p = omega (arith, one-mul x)
+kept_lt n (suc (suc k)) x h p = absurd (omega arith)
 
-split_and : (n x y a b r s : ℕ) → Split n x a r → Split n y b s → Split n (bit_and x y) (bit_and a b) (bit_and r s)
-split_and n x y a b r s p q = record {
-  is = rw (p.is, q.is) (and_block 1 a b r s p.low q.low);
-  high = and_lt n a b p.high q.high;
-  low = and_lt 1 r s p.low q.low;
-}
-
-split_or : (n x y a b r s : ℕ) → Split n x a r → Split n y b s → Split n (bit_or x y) (bit_or a b) (bit_or r s)
-split_or n x y a b r s p q = record {
-  is = rw (p.is, q.is) (or_block 1 a b r s p.low q.low);
-  high = or_lt n a b p.high q.high;
-  low = or_lt 1 r s p.low q.low;
-}
-
-split_comp : (n x a r : ℕ) → Split n x a r → Split n (comp (suc n) x) (comp n a) (1 - r)
-split_comp n x a r p =
-    let d = double n in
-    let is = p.is in
-    let high = p.high in
-    let low = p.low in
-    record { is = omega arith; high = omega arith; low = omega arith }
-
-split_of : (n x : ℕ) → x < 2 ^ suc n → Split n x (x / 2) (x % 2)
-split_of n x h = let d = double n in record { is = omega arith; high = omega arith; low = omega arith }
-
-split_times : (n k x a r : ℕ) → k < 2 → Split n x a r → Split n (k * x) (k * a) (k * r)
-split_times n zero x a r h p =
-    let z = zero-mul x in
-    let za = zero-mul a in
-    let zr = zero-mul r in
-    record { is = omega arith; high = omega (arith, pow_pos n); low = omega arith }
-split_times n (suc zero) x a r h p =
-    let z = one-mul x in
-    let za = one-mul a in
-    let zr = one-mul r in
-    record { is = omega (arith, p.is); high = omega (arith, p.high); low = omega (arith, p.low) }
-split_times n (suc (suc k)) x a r h p = let z : ⊥ = omega arith in absurd z
+kept_bit : (k x i : ℕ) → k < 2 → bit_at (k * x) i ≡ min k (bit_at x i)
+kept_bit zero x i h = rw (zero-mul x, bit_at-zero i) (omega arith)
+kept_bit (suc zero) x i h = rw (one-mul x) (omega (arith, bit_at-lt x i))
+kept_bit (suc (suc k)) x i h = absurd (omega arith)
 
 abbrev pub joined : ℕ → ℕ → ℕ → ℕ → ℕ
 joined n rule x y =
-    bit_or (bit_or (bit_or (rule / 8 % 2 * bit_and x y) (rule / 4 % 2 * bit_and x (comp n y))) (rule / 2 % 2 * bit_and (comp n x) y)) (rule % 2 * bit_and (comp n x) (comp n y))
+    bit_or (bit_or (bit_or (rule / 8 % 2 * bit_and x y) (rule / 4 % 2 * bit_and x (turned n y))) (rule / 2 % 2 * bit_and (turned n x) y)) (rule % 2 * bit_and (turned n x) (turned n y))
 
 bits : (rule r s : ℕ) → r < 2 → s < 2
-    → bit_or (bit_or (bit_or (rule / 8 % 2 * bit_and r s) (rule / 4 % 2 * bit_and r (1 - s))) (rule / 2 % 2 * bit_and (1 - r) s)) (rule % 2 * bit_and (1 - r) (1 - s)) ≡ chosen rule r s
-bits rule zero zero p q = simp (mul-zero, mul-one, or_zero_l) (omega arith)
-bits rule zero (suc zero) p q = simp (mul-zero, mul-one, or_zero_l, or_zero_r) (omega arith)
-bits rule zero (suc (suc s)) p q = omega arith
-bits rule (suc zero) zero p q = simp (mul-zero, mul-one, or_zero_l, or_zero_r) (omega arith)
-bits rule (suc zero) (suc zero) p q = simp (mul-zero, mul-one, or_zero_r) (omega arith)
-bits rule (suc zero) (suc (suc s)) p q = omega arith
-bits rule (suc (suc r)) s p q = omega arith
+    → max (max (max (min (rule / 8 % 2) (min r s)) (min (rule / 4 % 2) (min r (1 - s)))) (min (rule / 2 % 2) (min (1 - r) s))) (min (rule % 2) (min (1 - r) (1 - s))) ≡ chosen rule r s
+bits rule = two_bits _ (omega arith) (omega arith) (omega arith) (omega arith)
 
-pub joined_is : (n rule x y : ℕ) → x < 2 ^ n → y < 2 ^ n → joined n rule x y ≡ raster_bits n rule x y
-unfolding raster_bits
-joined_is zero rule x y p q =
-    let ex : x ≡ 0 = omega arith in
-    rw ex (simp (mul-zero, or_zero_l))
-joined_is (suc n) rule x y p q =
-    let sx = split_of n x p in
-    let sy = split_of n y q in
-    let cx = split_comp n x (x / 2) (x % 2) sx in
-    let cy = split_comp n y (y / 2) (y % 2) sy in
-    let t3 = split_times n (rule / 8 % 2) _ _ _ (omega arith) (split_and n _ _ _ _ _ _ sx sy) in
-    let t2 = split_times n (rule / 4 % 2) _ _ _ (omega arith) (split_and n _ _ _ _ _ _ sx cy) in
-    let t1 = split_times n (rule / 2 % 2) _ _ _ (omega arith) (split_and n _ _ _ _ _ _ cx sy) in
-    let t0 = split_times n (rule % 2) _ _ _ (omega arith) (split_and n _ _ _ _ _ _ cx cy) in
-    let all = split_or n _ _ _ _ _ _ (split_or n _ _ _ _ _ _ (split_or n _ _ _ _ _ _ t3 t2) t1) t0 in
-    let high = joined_is n rule (x / 2) (y / 2) sx.high sy.high in
-    let low = bits rule (x % 2) (y % 2) sx.low sy.low in
-    omega (arith, all.is)
+module _ (n rule x y : ℕ) (h : x < 2 ^ n) (k : y < 2 ^ n) where
+  joined_lt : joined n rule x y < 2 ^ n
+  joined_lt =
+      let kept = λ (b u v : ℕ) (l : u < 2 ^ n) (m : v < 2 ^ n). kept_lt n (b % 2) (bit_and u v) (omega arith) (and_lt n u v l m) in
+      let x' = turned_lt n x in
+      let y' = turned_lt n y in
+      or_lt n _ _ (or_lt n _ _ (or_lt n _ _ (kept (rule / 8) x y h k) (kept (rule / 4) x (turned n y) h y')) (kept (rule / 2) (turned n x) y x' k))
+      (kept rule (turned n x) (turned n y) x' y')
 
--- a channel that a bit keeps or drops is a channel
-pub times_le : (k x y : ℕ) → k < 2 → x < 256 → k * bit_and x y < 256
-times_le zero x y h p = rw zero-mul (omega arith)
-times_le (suc zero) x y h p = rw one-mul (omega (arith, and_le_l x y))
-times_le (suc (suc k)) x y h p = let z : ⊥ = omega arith in absurd z
+  joined_bit : (i : ℕ) → i < n → bit_at (joined n rule x y) i ≡ chosen rule (bit_at x i) (bit_at y i)
+  joined_bit i l =
+      let kept : (b u v : ℕ) → bit_at (b % 2 * bit_and u v) i ≡ min (b % 2) (min (bit_at u i) (bit_at v i)) =
+      λ b u v. rw (kept_bit (b % 2) (bit_and u v) i (omega arith), bit_at_and) in
+      rw (
+        bit_at_or,
+        bit_at_or,
+        bit_at_or,
+        kept (rule / 8) x y,
+        kept (rule / 4) x (turned n y),
+        kept (rule / 2) (turned n x) y,
+        kept rule (turned n x) (turned n y),
+        turned_bit n x i h l,
+        turned_bit n y i k l,
+      )
+      (bits rule _ _ (bit_at-lt x i) (bit_at-lt y i))
+
+  pub joined_is : joined n rule x y ≡ raster_bits n rule x y
+  joined_is = same_from_bits_below n _ _ joined_lt (raster_lt n rule x y) (λ i l. joined_bit i l ∙ sym (raster_bit n rule x y i l))

@@ -1,19 +1,13 @@
 -- Laws of raster rules.
-use Rattle.std.proofs.Common.{◌≡◌, ℕ, zero, suc, ◌/◌, ◌%◌, ◌^◌, ◌<◌, refl, arith}
-use lib.Bits.{bit_xor, differ, xor_step}
+use Rattle.std.proofs.Common.{◌≡◌, ℕ, ◌+◌, ◌%◌, ◌^◌, ◌<◌, refl, sym, ◌∙◌}
+use Rattle.std.proofs.lemmas.Nat.{xor_lt}
+use Rattle.std.proofs.lemmas.Nat.Bits.{bit_at_xor, bit_at-lt, same_from_bits_below}
+use lib.Bits.{bit_xor}
 use Rattle.colour.specs.declared.Colour.{Colour}
 use Rattle.colour.specs.Channels.{Channels, xored}
+use Rattle.colour.proofs.Bits.{two_bits}
 use Rattle.pixel.specs.Rasters.{chosen, raster_bits, rastered}
-use Rattle.pixel.proofs.Minterms.{double}
-
-raster_lt : (n rule x y : ℕ) → raster_bits n rule x y < 2 ^ n
-unfolding raster_bits
-raster_lt zero rule x y = omega arith
-raster_lt (suc n) rule x y =
-    let d = double n in
-    let high = raster_lt n rule (x / 2) (y / 2) in
-    let low : chosen rule (x % 2) (y % 2) < 2 = omega arith in
-    omega arith
+use Rattle.pixel.proofs.Minterms.{raster_lt, raster_bit}
 
 -- every rule makes channels of 8 bits
 pub rastered_channels : (rule : ℕ) (c d : Colour) → Channels (rastered rule c d)
@@ -23,26 +17,10 @@ rastered_channels rule c d = record {
   blue = raster_lt 8 rule c.blue d.blue;
 }
 
-differs : (r s : ℕ) → r < 2 → s < 2 → chosen 6 r s ≡ differ r s
-differs zero zero h k = refl
-differs zero (suc zero) h k = refl
-differs zero (suc (suc s)) h k = omega arith
-differs (suc zero) zero h k = refl
-differs (suc zero) (suc zero) h k = refl
-differs (suc zero) (suc (suc s)) h k = omega arith
-differs (suc (suc r)) s h k = omega arith
-
 raster_six : (n x y : ℕ) → x < 2 ^ n → y < 2 ^ n → raster_bits n 6 x y ≡ bit_xor x y
-unfolding raster_bits
-raster_six zero x y h k =
-    let p : x ≡ 0 = omega arith in
-    let q : y ≡ 0 = omega arith in
-    rw (p, q)
-raster_six (suc n) x y h k =
-    let d = double n in
-    let high = raster_six n (x / 2) (y / 2) (omega arith) (omega arith) in
-    let low = differs (x % 2) (y % 2) (omega arith) (omega arith) in
-    omega (arith, xor_step x y)
+raster_six n x y h k =
+    same_from_bits_below n _ _ (raster_lt n 6 x y) (xor_lt n x y h k)
+    (λ i l. raster_bit n 6 x y i l ∙ two_bits (λ r s. chosen 6 r s ≡ (r + s) % 2) refl refl refl refl _ _ (bit_at-lt x i) (bit_at-lt y i) ∙ sym (bit_at_xor x y i))
 
 -- rule 6 is the exclusive or
 pub rastered_six : (c d : Colour) → Channels c → Channels d → rastered 6 c d ≡ xored c d

@@ -8,32 +8,45 @@ ghost use Rattle.pixel.specs.Choices.{keyed, expanded, expanded_over, filled};
 
 use colour::Colour;
 
-// A raster rule on one channel. It is the or of the four ways in which two bits can stand, each of which one bit of the rule keeps or drops.
+// The colour whose channels f makes of those of two colours, channel by channel.
+fn zip_channels<F: Fn(u8, u8) -> u8>(first: Colour, second: Colour, f: F) -> Colour
+    requires red { F.pre f first.red second.red }
+    requires green { F.pre f first.green second.green }
+    requires blue { F.pre f first.blue second.blue }
+    ensures red { F.post f first.red second.red result.red }
+    ensures green { F.post f first.green second.green result.green }
+    ensures blue { F.post f first.blue second.blue result.blue }
+{
+    Colour {
+        red: f(first.red, second.red),
+        green: f(first.green, second.green),
+        blue: f(first.blue, second.blue),
+    }
+}
+
+// A raster rule on one channel. It is the or of the four ways in which two bits can stand, each of which one bit of the rule keeps
+// or drops. The rule is a number and no enum, since its bits are its truth table: each of the sixteen is a rule.
 pub fn raster_channel(rule: u8, first: u8, second: u8) -> u8
     ensures { result ≡ raster_channel rule first second }
 {
     let both = rule / 8 % 2 * (first & second);
-    let only_first = rule / 4 % 2 * (first & (255 - second));
-    let only_second = rule / 2 % 2 * ((255 - first) & second);
-    let neither = rule % 2 * ((255 - first) & (255 - second));
+    let only_first = rule / 4 % 2 * (first & !second);
+    let only_second = rule / 2 % 2 * (!first & second);
+    let neither = rule % 2 * (!first & !second);
     both | only_first | only_second | neither
 }
 
 pub fn raster(rule: u8, first: Colour, second: Colour) -> Option<Colour>
     ensures { result ≡ Some (rastered rule first second) }
 {
-    Some(Colour {
-        red: raster_channel(rule, first.red, second.red),
-        green: raster_channel(rule, first.green, second.green),
-        blue: raster_channel(rule, first.blue, second.blue),
-    })
+    Some(zip_channels(first, second, |x, y| raster_channel(rule, x, y)))
 }
 
 // The colour, but none where the source's value is the key.
 pub fn keyed(value: u32, key: u32, colour: Colour) -> Option<Colour>
     ensures { result ≡ keyed value key colour }
 {
-    if value == key { None } else { Some(colour) }
+    (value != key).then_some(colour)
 }
 
 // The colour of a bit of a pattern.
@@ -47,10 +60,11 @@ pub fn expanded(bit: u32, foreground: Colour, background: Colour) -> Option<Colo
 pub fn expanded_over(bit: u32, foreground: Colour) -> Option<Colour>
     ensures { result ≡ expanded_over bit foreground }
 {
-    if bit % 2 == 1 { Some(foreground) } else { None }
+    (bit % 2 == 1).then_some(foreground)
 }
 
-// The mean of two channels, of which the first counts level times in 32 and the second the other times. A level above 32 counts as 32.
+// The mean of two channels, of which the first counts level times in 32 and the second the other times. A level above 32 counts
+// as 32.
 pub fn blend_channel(level: u8, first: u8, second: u8) -> u8
     ensures mean { result ≡ blend_channel level first second }
     ensures between { Between first second result }
@@ -63,11 +77,7 @@ pub fn blended(level: u8, first: Colour, second: Colour) -> Option<Colour>
     ensures mean { result ≡ Some (blended level first second) }
     ensures between { SomeBetween first second result }
 {
-    Some(Colour {
-        red: blend_channel(level, first.red, second.red),
-        green: blend_channel(level, first.green, second.green),
-        blue: blend_channel(level, first.blue, second.blue),
-    })
+    Some(zip_channels(first, second, |x, y| blend_channel(level, x, y)))
 }
 
 pub fn filled(foreground: Colour) -> Option<Colour>

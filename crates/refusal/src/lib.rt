@@ -4,21 +4,21 @@
 ghost use Rattle.std.specs.Prelude.{◌≡◌};
 ghost use Rattle.refusal.specs.Numbers.{number_of};
 
-// Each ground of refusal. The numbers on the wire are `number_of` in specs/Numbers.antt.
+// Each ground of refusal, with its number on the wire: `number_of` in specs/Numbers.antt.
 #[derive(Clone, Copy, PartialEq, Eq, Debug)]
 pub enum Refusal {
-    NoSuchRegister,
-    Busy,
-    NoSuchOperation,
-    DepthNotTaken,
-    StartBitPastUnit,
-    LevelTooHigh,
-    OutsideWindowLimits,
-    PastMemory,
-    NoByteAwaited,
-    NothingToRun,
-    NothingUnderWay,
-    NoSuchAddress,
+    NoSuchRegister = 1,
+    Busy = 2,
+    NoSuchOperation = 3,
+    DepthNotTaken = 4,
+    StartBitPastUnit = 5,
+    LevelTooHigh = 6,
+    OutsideWindowLimits = 7,
+    PastMemory = 8,
+    NoByteAwaited = 9,
+    NothingToRun = 10,
+    NothingUnderWay = 11,
+    NoSuchAddress = 12,
 }
 
 impl Refusal {
@@ -26,19 +26,6 @@ impl Refusal {
     pub fn number(self) -> u8
         ensures { result ≡ number_of self }
     {
-        match self {
-            Refusal::NoSuchRegister => 1,
-            Refusal::Busy => 2,
-            Refusal::NoSuchOperation => 3,
-            Refusal::DepthNotTaken => 4,
-            Refusal::StartBitPastUnit => 5,
-            Refusal::LevelTooHigh => 6,
-            Refusal::OutsideWindowLimits => 7,
-            Refusal::PastMemory => 8,
-            Refusal::NoByteAwaited => 9,
-            Refusal::NothingToRun => 10,
-            Refusal::NothingUnderWay => 11,
-            Refusal::NoSuchAddress => 12,
-        }
+        self as u8
     }
 }

@@ -1,4 +1,5 @@
-// A pixel rule that is chosen while the program runs.
+// A pixel rule that is chosen while the program runs. It is an enum: no proof is made of a trait object in a field, and a box would need a
+// heap, which the engine does not have.
 ghost use Rattle.std.specs.Prelude.{◌≡◌, ℕ};
 ghost use Rattle.rules.specs.Chosen.{rule_yields};
 

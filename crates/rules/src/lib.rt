@@ -17,7 +17,7 @@ pub trait PixelRule {
         ensures { result ≡ yields self.now palette.now first second };
 }
 
-// A raster rule on both sources.
+// A raster rule on both sources: a number, since its bits are its truth table.
 #[derive(Clone, Copy)]
 pub struct Raster<F, S> {
     pub rule: u8,
@@ -26,7 +26,7 @@ pub struct Raster<F, S> {
 }
 
 impl<F: Readable, S: Readable> PixelRule for Raster<F, S> {
-    ghost yields = { λ r. raster_yields (F.Readable.format r.first) (S.Readable.format r.second) r.rule };
+    ghost yields = { λ r. raster_yields (F.format r.first) (S.format r.second) r.rule };
 
     fn colour(&self, palette: &Palette, first: u32, second: u32) -> Option<Colour> {
         pixel::raster(
@@ -45,7 +45,7 @@ pub struct Key<F> {
 }
 
 impl<F: Canvas> PixelRule for Key<F> {
-    ghost yields = { λ r. key_yields (F.Readable.format r.first) (F.Canvas.narrowed r.first) r.background };
+    ghost yields = { λ r. key_yields (F.format r.first) (F.narrowed r.first) r.background };
 
     fn colour(&self, palette: &Palette, first: u32, _second: u32) -> Option<Colour> {
         pixel::keyed(
@@ -94,7 +94,7 @@ pub struct Blend<F, S> {
 }
 
 impl<F: Readable, S: Readable> PixelRule for Blend<F, S> {
-    ghost yields = { λ r. blend_yields (F.Readable.format r.first) (S.Readable.format r.second) r.level };
+    ghost yields = { λ r. blend_yields (F.format r.first) (S.format r.second) r.level };
 
     fn colour(&self, palette: &Palette, first: u32, second: u32) -> Option<Colour> {
         pixel::blended(
@@ -113,7 +113,7 @@ pub struct OverlayBlend<F, S> {
 }
 
 impl<F: Readable, S: Overlay> PixelRule for OverlayBlend<F, S> {
-    ghost yields = { λ r. overlay_blend_yields (F.Readable.format r.first) (S.Readable.format r.second) (S.Overlay.levels r.second) };
+    ghost yields = { λ r. overlay_blend_yields (F.format r.first) (S.format r.second) (S.levels r.second) };
 
     fn colour(&self, palette: &Palette, first: u32, second: u32) -> Option<Colour> {
         let level = self.second.level(second);

@@ -1,6 +1,7 @@
 -- Where an operation takes the values of its pixels from.
 use Rattle.std.specs.Prelude.{ℕ, ◌/◌, ◌%◌, ◌^◌, List}
-use Rattle.window.specs.Places.{Area, area_of, place, cell}
+use Rattle.window.specs.declared.area.Area.{Area}
+use Rattle.window.specs.Places.{area_of, place, cell}
 use Rattle.window.specs.Values.{value_at}
 use Rattle.source.specs.declared.source.Source.{Source}
 use Rattle.source.specs.declared.source.Source.TheVariants.{Unused, Host, HostBits, Image, Pattern, Bits}

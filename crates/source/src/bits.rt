@@ -11,14 +11,28 @@ impl Unit {
     pub fn bits(&self) -> u8
         ensures { result ≡ unit_bits self.now }
     {
-        match self {
-            Unit::Eight => 8,
-            Unit::Sixteen => 16,
-        }
+        *self as u8
     }
 }
 
 impl BitRows {
+    // Rows of bits, or a refusal where the start bit is not a bit of the unit. Rows of no columns are declined as a side of 0 is.
+    pub fn new(unit: Unit, start_bit: u8, columns: u16) -> Result<BitRows, Refusal>
+        ensures { shown_rows result ≡ rows_at (record { unit = unit_bits unit; start = start_bit; columns = columns }) }
+    {
+        if start_bit >= unit.bits() {
+            return Err(Refusal::StartBitPastUnit);
+        }
+        if columns == 0 {
+            return Err(Refusal::OutsideWindowLimits);
+        }
+        Ok(BitRows {
+            unit,
+            start_bit,
+            columns,
+        })
+    }
+
     // How many units a row has.
     pub fn units(&self) -> u32
         ensures { result ≡ row_units (rows_of self.now) }
@@ -50,25 +64,6 @@ impl BitRows {
         let bits = self.unit.bits() as u32;
         let columns = self.columns as u32;
         (bits - self.depth_in_row(k) % bits).min(columns - k % columns)
-    }
-}
-
-impl BitRows {
-    // Rows of bits, or a refusal where the start bit is not a bit of the unit. No columns are refused as a side is.
-    pub fn new(unit: Unit, start_bit: u8, columns: u16) -> Result<BitRows, Refusal>
-        ensures { shown_rows result ≡ rows_at (record { unit = unit_bits unit; start = start_bit; columns = columns }) }
-    {
-        if start_bit >= unit.bits() {
-            return Err(Refusal::StartBitPastUnit);
-        }
-        if columns == 0 {
-            return Err(Refusal::OutsideWindowLimits);
-        }
-        Ok(BitRows {
-            unit,
-            start_bit,
-            columns,
-        })
     }
 
     // Where the byte lies that holds the bit of pixel k, if the rows begin at `start`.

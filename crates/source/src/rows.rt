@@ -5,11 +5,13 @@ ghost use Rattle.source.specs.Units.{unit_bits};
 // The bits that come together.
 #[derive(Clone, Copy)]
 pub enum Unit {
-    Eight,
-    Sixteen,
+    Eight = 8,
+    Sixteen = 16,
 }
 
 // Each row begins in a unit of its own at the start bit, going down, and goes on at the top bit of each further unit.
+// Ghost fields and no model: where a value with a model stands inside an enum, as it would in `Source`, another crate that keeps
+// a drawing over a branch gets no proof.
 #[derive(Clone, Copy)]
 pub struct BitRows {
     pub(crate) unit: Unit,

@@ -2,6 +2,8 @@
 use crate::rows::BitRows;
 use window::{PixelSize, Window};
 
+// Clauses see it by `origin_of`, since an enum can have no model. `Unused` is one of six cases, and an Option of the other five
+// would only nest the matches.
 #[derive(Clone, Copy)]
 pub enum Source {
     // nothing is taken

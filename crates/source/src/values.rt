@@ -18,6 +18,7 @@ fn bit_of(number: u32, bit: u32) -> u32
 }
 
 // The number that one byte of memory holds.
+#[tactic(auto, unfolding(window::specs::Values::value_at))]
 fn held_at<M: Memory>(memory: &M, address: u64) -> u32
     ensures { result ≡ value_at (M.bytes memory.now) address 1 }
 {

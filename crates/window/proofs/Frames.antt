@@ -1,9 +1,9 @@
 -- What a pixel that is stored leaves, and what it gives back.
-use Rattle.std.proofs.Common.{◌≡◌, ℕ, zero, suc, ◌+◌, ◌*◌, ◌/◌, ◌%◌, ◌^◌, ◌<◌, ◌≤◌, ◌≢◌, List, length, get_or, set, sym, refl, ap, ◌∙◌, ⊎_elim, add-zero, add_assoc, mod-eq_of_lt, mul-suc, one-add, arith, lit<, pow_pos, pow-add}
+use Rattle.std.proofs.Common.{◌≡◌, ℕ, zero, suc, ◌+◌, ◌*◌, ◌/◌, ◌%◌, ◌^◌, ◌<◌, ◌≤◌, ◌≢◌, List, length, get_or, set, sym, refl, ap, ◌∙◌, add-zero, add_assoc, mod-eq_of_lt, mul-suc, one-add, arith, lit<, pow_pos, pow-add}
 use lib.Arith.{mod-mul}
-use Rattle.std.proofs.lemmas.List.{length-set, set_comm, set-set, set-get_or, get_or-set_same, get_or-set_other, set_past}
-use Rattle.std.proofs.lemmas.Bool.{cases_lt, cases_eq}
+use Rattle.std.proofs.lemmas.List.{length-set, set_comm, set-set, set-get_or, get_or-set_same, get_or-set_other}
 use Rattle.memory.specs.Bytes.{Sound}
+use Rattle.memory.specs.View.{set_sound}
 use Rattle.window.specs.Values.{value_at, stored}
 use Rattle.window.specs.Apart.{Off, Apart}
 
@@ -107,18 +107,6 @@ stored_same m s a (suc b) =
     let high : (get_or m a 0 + 256 * r) / 256 ≡ r = omega arith in
     let same : set m a ((get_or m a 0 + 256 * r) % 256) ≡ m = ap (set m a) low ∙ set-get_or m a 0 in
     ap (λ n. stored n (a + 1) b ((get_or m a 0 + 256 * r) / 256)) same ∙ ap (stored m (a + 1) b) high ∙ stored_same m s (a + 1) b
-
-set_sound : (m : List ℕ) → Sound m → (a v : ℕ) → v < 256 → Sound (set m a v)
-set_sound m s a v h = record {
-  short = omega (arith, s.short, length-set m a v);
-  bytes = λ k. ⊎_elim
-      (λ e. ⊎_elim
-      (λ in'. omega (arith, ap (λ n. get_or (set m a v) n 0) e, get_or-set_same m a v 0 in'))
-      (λ past. rw (set_past m a v past) (s.bytes k))
-      (cases_lt a (length m)))
-      (λ ne. rw (get_or-set_other m a k v 0 ne) (s.bytes k))
-      (cases_eq k a);
-}
 
 pub sound_stored : (m : List ℕ) → Sound m → (a b v : ℕ) → Sound (stored m a b v)
 unfolding stored

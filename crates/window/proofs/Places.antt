@@ -2,7 +2,8 @@
 use Rattle.std.proofs.Common.{◌≡◌, ℕ, ◌+◌, ◌-◌, ◌*◌, ◌/◌, ◌%◌, ◌<◌, ◌≤◌, Bool, true, false, cond, eqb, ◌≢◌, sym, ap, ◌∙◌, mul_comm, arith}
 use Rattle.std.proofs.lemmas.Nat.{mul-le, mul-add-lt, div_below, mod_below, div-mul-add, mod-mul-add, div-add-mod'}
 use Rattle.window.specs.Apart.{Apart}
-use Rattle.window.specs.Places.{Area, pixels, place, cell, reach}
+use Rattle.window.specs.declared.area.Area.{Area}
+use Rattle.window.specs.Places.{pixels, place, cell, reach}
 
 module _ (a : Area) (across : 1 ≤ a.width) where
   -- a pixel ends inside the window

@@ -2,24 +2,17 @@
 use Rattle.std.specs.Prelude.{ℕ, ◌+◌, ◌-◌, ◌*◌, ◌/◌, ◌%◌, cond, Ok, Err, Result, ◌==◌}
 use Rattle.refusal.specs.declared.Refusal.{Refusal}
 use Rattle.refusal.specs.Numbers.{number_of}
+use Rattle.window.specs.declared.area.Area.{Area}
 use Rattle.window.specs.declared.window.Window.{Window}
 use Rattle.window.specs.Limits.{within}
 
--- a window as plain numbers
-pub record Area : Type 0 where
-  pub start : ℕ
-  pub image : ℕ
-  pub left : ℕ
-  pub top : ℕ
-  pub width : ℕ
-  pub height : ℕ
-
+-- the numbers of a window
 abbrev pub area_of : Window → Area
-area_of w = record { start = w.start; image = w.image; left = w.left; top = w.top; width = w.width; height = w.height }
+area_of w = w.area
 
 -- a window, or 7 where the numbers lie outside the limits
 abbrev pub window_at : ℕ → Area → Result Area ℕ
-window_at limit a = cond (within limit a.image a.left a.top a.width a.height) (Ok a) (Err 7)
+window_at limit a = cond (within limit a) (Ok a) (Err 7)
 
 abbrev pub shown : Result Window Refusal → Result Area ℕ
 shown (Ok w) = Ok (area_of w)

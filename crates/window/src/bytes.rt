@@ -7,18 +7,14 @@ use memory::Memory;
 pub fn byte_at<M: Memory>(memory: &M, address: u64) -> u8
     ensures { result ≡ slice_index (M.bytes memory.now) address }
 {
-    if address < memory.size() as u64 {
-        memory.read(address as u32).unwrap_or(0)
-    } else {
-        0
-    }
+    u32::try_from(address).map_or(0, |address| memory.read(address).unwrap_or(0))
 }
 
 // Puts a byte; past memory there is nothing to change.
 pub fn put_byte<M: Memory>(memory: &mut M, address: u64, byte: u8)
     ensures { M.bytes memory.new ≡ slice_set (M.bytes memory.old) address byte }
 {
-    if address < memory.size() as u64 {
-        let _ = memory.put(address as u32, byte);
+    if let Ok(address) = u32::try_from(address) {
+        let _ = memory.put(address, byte);
     }
 }

@@ -2,6 +2,8 @@
 ghost use Rattle.std.specs.Prelude.{◌≡◌, true, nat_lt};
 
 // At most four, so that a value fits 32 bits.
+// A ghost field and no model: where a value with a model stands inside an enum, as it would in `Source`, another crate that keeps
+// a drawing over a branch gets no proof.
 #[derive(Clone, Copy)]
 pub struct PixelSize {
     pub(crate) bytes: u8,

@@ -2,17 +2,15 @@
 ghost use Rattle.std.specs.Prelude.{◌≡◌, true};
 ghost use Rattle.window.specs.Limits.{within};
 
+use crate::area::Area;
+
 // The largest image width and rectangle side of our panels.
 pub const SIDE_LIMIT: u16 = 8191;
 
-// The rectangle of `width` by `height` pixels at (left, top) of an image, `image` pixels wide, that begins at `start`.
+// A ghost field and no model: where a value with a model stands inside an enum, as it would in `Source`, another crate that keeps
+// a drawing over a branch gets no proof.
 #[derive(Clone, Copy)]
 pub struct Window {
-    pub(crate) start: u32,
-    pub(crate) image: u16,
-    pub(crate) left: u16,
-    pub(crate) top: u16,
-    pub(crate) width: u16,
-    pub(crate) height: u16,
-    ghost limited: { within 8191 image left top width height ≡ true },
+    pub(crate) area: Area,
+    ghost limited: { within 8191 area ≡ true },
 }

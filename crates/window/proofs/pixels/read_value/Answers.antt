@@ -1,20 +1,13 @@
 use Rattle.std.proofs.Common.{◌+◌, ◌-◌, arith}
-use Rattle.window.proofs.Values.{value_none, value_small, value_again}
+use Rattle.window.proofs.Values.{value_small}
 use Rattle.window.proofs.pixels.read_value.Goals as goal
-
-pub loop-done-init : goal.loop-done-init
-loop-done-init g c = value_none (g.M.Memory.bytes c.args.memory.now) _
 
 pub overflow_mul-value : goal.overflow_mul-value
 overflow_mul-value g c =
     let m = c.args.memory.now in
-    record { fits = omega (arith, value_small (g.M.Memory.bytes m) (g.M.Memory.sound m) (c.args.at + (c.args.bytes_per_pixel - c.loop-done.done)) c.loop-done.done (omega arith)) }
+    record { fits = omega (arith, value_small (g.M.Memory.bytes m) (g.M.Memory.sound m) (c.args.at + c.loop-i.i) (c.args.bytes_per_pixel - c.loop-i.i) (omega arith)) }
 
 pub overflow_add-value : goal.overflow_add-value
 overflow_add-value g c =
     let m = c.args.memory.now in
-    record { fits = omega (arith, value_small (g.M.Memory.bytes m) (g.M.Memory.sound m) (c.args.at + (c.args.bytes_per_pixel - c.loop-done.done)) c.loop-done.done (omega arith)) }
-
-pub loop-done-preserved : goal.loop-done-preserved
-loop-done-preserved g c =
-    value_again (g.M.Memory.bytes c.args.memory.now) c.args.at c.args.bytes_per_pixel c.loop-done.done c.loop-done.value c.byte_at.result c.loop-done-test.true c.loop-done.invariant c.byte_at.ensures
+    record { fits = omega (arith, value_small (g.M.Memory.bytes m) (g.M.Memory.sound m) (c.args.at + c.loop-i.i) (c.args.bytes_per_pixel - c.loop-i.i) (omega arith)) }

@@ -1,20 +1,10 @@
-use Rattle.std.proofs.Common.{◌≡◌, ◌-◌, ◌≤◌, sym, ap, ◌∙◌, subst, arith}
+use Rattle.std.proofs.Common.{◌≡◌, ◌-◌, ◌≤◌, sym, subst, arith}
 use Rattle.window.specs.Places.{pixels}
 use Rattle.window.proofs.Limits.{limits_of}
 use Rattle.engine.specs.Painted.{op_of, plotted, painted}
 use Rattle.engine.specs.Laws.{PixelsHold, OnlyPixels}
-use Rattle.engine.proofs.Painting.{painted_none, painted_more}
 use Rattle.engine.proofs.Laws.{painted_holds, painted_only}
 use Rattle.engine.proofs.drawing.Drawing.draw.Goals as goal
-
-pub loop-i-init : goal.loop-i-init
-loop-i-init g c = painted_none _ c.args.first (g.M.Memory.bytes c.args.memory.now)
-
-pub loop-i-preserved : goal.loop-i-preserved
-loop-i-preserved g c =
-    painted_more
-    (plotted (op_of g.R.PixelRule.yields g.D.Readable.format g.D.Canvas.narrowed c.args.self.now) c.args.palette.now c.args.sent)
-    c.args.first c.loop-i.i _ _ _ c.loop-i.invariant c.plot.ensures
 
 pub returns : goal.returns
 returns g c =
@@ -24,11 +14,11 @@ returns g c =
     let first = c.args.first in
     let count = c.allowed-count.result in
     let m = g.M.Memory.bytes c.args.memory.now in
-    let n = g.M.Memory.bytes c.loop-i.memory in
+    let n = g.M.Memory.bytes c.loop-k.memory in
     let l = limits_of c.args.self.now.target in
     let few : count ≤ pixels o.target - first = omega arith in
-    let all : c.loop-i.i ≡ count = omega arith in
-    let after = c.loop-i.invariant ∙ ap (λ i. painted (plotted o p sent) first i m) all in
+    let all : c.loop-k.k - first ≡ count = omega arith in
+    let after : n ≡ painted (plotted o p sent) first count m = rw (sym all) c.loop-k.invariant in
     record {
       count = c.allowed-count.ensures;
       after = after;

@@ -1,12 +1,15 @@
-use Rattle.std.proofs.Common.{arith, length-take}
-use lib.Seq.{take-set-lt}
-use Rattle.layers.specs.Entries.{entry, held}
+use Rattle.std.proofs.Common.{ap, set, subst, arith, length}
+use Rattle.std.proofs.lemmas.List.{length-set}
+use Rattle.arrayvec.proofs.ArrayVecLemmas.{items-with_items}
+use Rattle.layers.specs.Queue.{Once}
+use Rattle.layers.proofs.Onces.{once_set}
 use Rattle.layers.proofs.pending.Pending.change.Goals as goal
 
-pub offset_bounds-self-i : goal.offset_bounds-self-i
-offset_bounds-self-i c = let s = c.args.self.now in record { fits = omega (arith, length-take (held s) s.entries) }
-
-pub returns : goal.returns
-returns c =
-    let s = c.args.self.now in
-    take-set-lt (held s) s.entries c.args.i (entry c.args.address c.args.value) (omega (arith, length-take (held s) s.entries))
+pub invariant_of-self : goal.invariant_of-self
+invariant_of-self c =
+    let v = c.self.inside.table in
+    let es = c.args.self.now in
+    let i = c.args.i in
+    let put = c.args.put in
+    rw (c.deref_mut.ensures.value, items-with_items v (set v.items i put) (length-set v.items i put), c.self.view_is)
+    (omega (arith, length-set es i put, ap length c.self.view_is, c.self.invariant.0), once_set es i put c.requires (subst Once c.self.view_is c.self.invariant.1))

@@ -1,0 +1,40 @@
+// The fields of a pixel value that has three.
+ghost use Rattle.std.specs.Prelude.{◌≡◌, ℕ, ◌+◌, ◌*◌, ◌/◌, ◌%◌, ◌^◌};
+ghost use Rattle.colour.specs.Widths.{bits_of};
+ghost use Rattle.colour.specs.Packing.{unpacked, packed};
+
+use crate::field::FieldWidth;
+
+// The widths of three fields that stand side by side, the first in the highest bits.
+#[derive(Clone, Copy, PartialEq, Eq, Debug)]
+pub struct Fields {
+    pub high: FieldWidth,
+    pub middle: FieldWidth,
+    pub low: FieldWidth,
+}
+
+impl Fields {
+    // The channels that the fields of a value widen to.
+    pub fn unpack(self, value: u32) -> (u8, u8, u8)
+        ensures { result ≡ unpacked (bits_of self.high) (bits_of self.middle) (bits_of self.low) value }
+    {
+        let above_low = value >> self.low.bits();
+        let above_middle = above_low >> self.middle.bits();
+        (
+            self.high.widen((above_middle % 256) as u8),
+            self.middle.widen((above_low % 256) as u8),
+            self.low.widen((value % 256) as u8),
+        )
+    }
+
+    // The value whose fields are what the channels narrow to.
+    pub fn pack(self, high: u8, middle: u8, low: u8) -> u32
+        ensures { result ≡ packed (bits_of self.high) (bits_of self.middle) (bits_of self.low) high middle low }
+    {
+        let high = self.high.narrow(high) as u32;
+        let middle = self.middle.narrow(middle) as u32;
+        let low = self.low.narrow(low) as u32;
+        let upper = (high << self.middle.bits()) + middle;
+        (upper << self.low.bits()) + low
+    }
+}

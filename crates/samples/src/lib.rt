@@ -1,0 +1,68 @@
+// Settings that tests begin from, and jobs by them.
+#![tactic(auto)]
+
+ghost use Rattle.std.specs.Prelude.{◌≡◌, false, length};
+ghost use Rattle.job.specs.Works.{clearing};
+ghost use Rattle.samples.specs.Samples.{black, sample_surface, begun_of};
+
+use colour::Colour;
+use job::{Begun, Draft, Settings, Surface};
+use memory::Memory;
+use refusal::Refusal;
+
+pub fn rgb(red: u8, green: u8, blue: u8) -> Colour
+    ensures { result ≡ record { red = red; green = green; blue = blue } }
+{
+    Colour { red, green, blue }
+}
+
+// An image, from its first pixel on.
+pub fn surface(depth: u8, start: u32, image: u16) -> Surface
+    ensures { result ≡ sample_surface depth start image }
+{
+    Surface {
+        depth,
+        start,
+        image,
+        left: 0,
+        top: 0,
+    }
+}
+
+// One pixel of 3:3:2 at address 0 of images so many pixels wide, all in black.
+pub fn settings(operation: u8, code: u8, image: u16) -> Settings
+    ensures { result ≡ record {
+      operation = operation;
+      code = code;
+      large = false;
+      level = 0;
+      first = sample_surface 0 0 image;
+      second = sample_surface 0 0 image;
+      target = sample_surface 0 0 image;
+      width = 1;
+      height = 1;
+      foreground = black;
+      background = black;
+    } }
+{
+    Settings {
+        operation,
+        code,
+        large: false,
+        level: 0,
+        first: surface(0, 0, image),
+        second: surface(0, 0, image),
+        target: surface(0, 0, image),
+        width: 1,
+        height: 1,
+        foreground: rgb(0, 0, 0),
+        background: rgb(0, 0, 0),
+    }
+}
+
+// A job that was begun over a memory, or the ground against it.
+pub fn begin<M: Memory>(memory: &M, settings: Settings) -> Result<Begun, Refusal>
+    ensures { begun_of settings result ≡ clearing settings (length (M.bytes memory.now)) }
+{
+    Ok(Draft::new(settings).clear(memory)?.begin())
+}
