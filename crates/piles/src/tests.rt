@@ -108,13 +108,6 @@ fn stretch_from_past_the_end(rt: HostRuntime) {
     );
 }
 
-fn two_words(block: &[u16]) -> [u16; 2] {
-    match block {
-        [first, second] => [*first, *second],
-        _ => [0, 0],
-    }
-}
-
 // Byte 1 is the high half of word 0, and byte 2 the low half of word 1.
 #[test]
 fn halves_of_words(rt: HostRuntime) {
@@ -127,11 +120,11 @@ fn halves_of_words(rt: HostRuntime) {
         done(queue.put(2, 0xEF)),
     ];
     let under = below::<Stretch<WordBoard<'_>>>(&queue, 0, 1);
-    let words = two_words(queue.into_below().into_below().into_block());
+    let words: &[u16] = queue.into_below().into_below().into_block();
     assert_eq!(rt; before, [0x12, 0x78, 1012]);
     assert_eq!(rt; puts, [0, 0, 1012]);
     assert_eq!(rt; under, [2, 0x12, 0x78]);
-    assert_eq!(rt; words, [0xAB34, 0x56CD]);
+    assert_eq!(rt; words, [0xAB34, 0x56CD].as_slice());
 }
 
 #[test]
@@ -165,8 +158,6 @@ fn words_through_a_pile(rt: HostRuntime) {
         stretch,
     } = put_stretched_words(&mut words, 1, 2, 1, 0x7F);
     assert_eq!(rt; [done(answer), byte(seen), waiting as u16], [0, 0x7F, 1]);
-    assert_eq!(rt;
-        two_words(stretch.into_below().into_block()),
-        [0x1111, 0x227F]
-    );
+    let words: &[u16] = stretch.into_below().into_block();
+    assert_eq!(rt; words, [0x1111, 0x227F].as_slice());
 }

@@ -47,10 +47,7 @@ pub struct Worked {
 fn units(unit: Unit, start_bit: u8, columns: u16) -> u32
     ensures { result ≡ counted (rows_at (record { unit = unit_bits unit; start = start_bit; columns = columns })) }
 {
-    match BitRows::new(unit, start_bit, columns) {
-        Ok(rows) => rows.units(),
-        Err(_) => 0,
-    }
+    BitRows::new(unit, start_bit, columns).map_or(0, |rows| rows.units())
 }
 
 pub fn worked_examples() -> Worked
