@@ -1,4 +1,4 @@
-// Settings that tests begin from, and jobs by them.
+// Settings that tests begin from, and the jobs that they begin.
 #![tactic(auto)]
 
 ghost use Rattle.std.specs.Prelude.{◌≡◌, false, length};
