@@ -1,8 +1,9 @@
 // The fields of a pixel value that has three.
 ghost use Rattle.std.specs.Prelude.{◌≡◌, ℕ, ◌+◌, ◌*◌, ◌/◌, ◌%◌, ◌^◌};
 ghost use Rattle.colour.specs.Widths.{bits_of};
-ghost use Rattle.colour.specs.Packing.{unpacked, packed};
+ghost use Rattle.colour.specs.Packing.{unpacked, unpacked_colour, packed};
 
+use crate::Colour;
 use crate::field::FieldWidth;
 
 // The widths of three fields that stand side by side, the first in the highest bits.
@@ -36,5 +37,20 @@ impl Fields {
         let low = self.low.narrow(low) as u32;
         let upper = (high << self.middle.bits()) + middle;
         (upper << self.low.bits()) + low
+    }
+
+    // The colour whose red, green and blue stand in the fields of a value, red in the highest.
+    pub fn colour(self, value: u32) -> Colour
+        ensures { result ≡ unpacked_colour (bits_of self.high) (bits_of self.middle) (bits_of self.low) value }
+    {
+        let (red, green, blue) = self.unpack(value);
+        Colour { red, green, blue }
+    }
+
+    // The value in whose fields the red, green and blue of a colour stand, red in the highest.
+    pub fn narrow(self, colour: Colour) -> u32
+        ensures { result ≡ packed (bits_of self.high) (bits_of self.middle) (bits_of self.low) colour.red colour.green colour.blue }
+    {
+        self.pack(colour.red, colour.green, colour.blue)
     }
 }

@@ -41,8 +41,7 @@ const ENTRY_FIELDS: Fields = Fields {
 pub fn colour_of_entry(entry: u16) -> Colour
     ensures { result ≡ entry_colour entry }
 {
-    let (red, green, blue) = ENTRY_FIELDS.unpack(entry as u32);
-    Colour { red, green, blue }
+    ENTRY_FIELDS.colour(entry as u32)
 }
 
 impl Palette {

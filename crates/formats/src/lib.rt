@@ -44,7 +44,7 @@ impl Canvas for Rgb332 {
     ghost keeps = { λ _. narrows332 };
 
     fn narrow(&self, colour: Colour) -> u32 {
-        Rgb332::FIELDS.pack(colour.red, colour.green, colour.blue)
+        Rgb332::FIELDS.narrow(colour)
     }
 }
 
@@ -67,8 +67,7 @@ impl Readable for Rgb565 {
     }
 
     fn colour(&self, _palette: &Palette, value: u32) -> Colour {
-        let (red, green, blue) = Rgb565::FIELDS.unpack(value);
-        Colour { red, green, blue }
+        Rgb565::FIELDS.colour(value)
     }
 }
 
@@ -78,7 +77,7 @@ impl Canvas for Rgb565 {
     ghost keeps = { λ _. narrows565 };
 
     fn narrow(&self, colour: Colour) -> u32 {
-        Rgb565::FIELDS.pack(colour.red, colour.green, colour.blue)
+        Rgb565::FIELDS.narrow(colour)
     }
 }
 
@@ -101,8 +100,7 @@ impl Readable for Rgb888 {
     }
 
     fn colour(&self, _palette: &Palette, value: u32) -> Colour {
-        let (red, green, blue) = Rgb888::FIELDS.unpack(value);
-        Colour { red, green, blue }
+        Rgb888::FIELDS.colour(value)
     }
 }
 
@@ -112,7 +110,7 @@ impl Canvas for Rgb888 {
     ghost keeps = { λ _. narrows888 };
 
     fn narrow(&self, colour: Colour) -> u32 {
-        Rgb888::FIELDS.pack(colour.red, colour.green, colour.blue)
+        Rgb888::FIELDS.narrow(colour)
     }
 }
 

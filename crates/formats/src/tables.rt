@@ -4,7 +4,7 @@ ghost use Rattle.std.specs.Prelude.{◌≡◌, ℕ, ◌%◌, ◌<◌, slice_inde
 use colour::Colour;
 
 // The row that a value chooses, taken modulo the number of rows.
-pub fn row<T: Copy, const N: usize>(table: &[T; N], value: u32) -> T
+pub(crate) fn row<T: Copy, const N: usize>(table: &[T; N], value: u32) -> T
     requires { 0 < N }
     ensures { (d : T) → result ≡ slice_index_or table.now (value % N) d }
 {
@@ -12,14 +12,16 @@ pub fn row<T: Copy, const N: usize>(table: &[T; N], value: u32) -> T
 }
 
 // The levels of the index format, by two bits.
-pub const INDEX_LEVELS: [u8; 4] = [0, 10, 21, 32];
+pub(crate) const INDEX_LEVELS: [u8; 4] = [0, 10, 21, 32];
 
 // The levels of the 4:4:4:4 format, by a field of four bits.
-pub const FIELD_LEVELS: [u8; 16] = [0, 2, 4, 6, 8, 10, 12, 14, 16, 18, 20, 22, 24, 26, 28, 32];
+pub(crate) const FIELD_LEVELS: [u8; 16] = [
+    0, 2, 4, 6, 8, 10, 12, 14, 16, 18, 20, 22, 24, 26, 28, 32,
+];
 
 // The colours of the 3:3:2 format, by pixel value.
 #[rattlefmt::skip]
-pub const COLOURS: [Colour; 256] = [
+pub(crate) const COLOURS: [Colour; 256] = [
     Colour { red: 0, green: 0, blue: 0 },
     Colour { red: 0, green: 0, blue: 85 },
     Colour { red: 0, green: 0, blue: 170 },
