@@ -3,20 +3,18 @@ use Rattle.std.specs.Prelude.{ℕ, Bool, true, cond, ◌&&◌, ◌||◌, is_some
 use Rattle.refusal.specs.declared.Refusal.{Refusal}
 use Rattle.refusal.specs.Numbers.{number_of}
 use Rattle.formats.specs.declared.Depth.{Depth}
-use Rattle.formats.specs.Depths.{depth_format}
 use Rattle.rules.specs.declared.chosen.Rule.{Rule}
 use Rattle.engine.specs.declared.drawing.Drawing.{Drawing}
+use Rattle.engine.specs.Inside.{lies_inside}
 use Rattle.window.specs.Limits.{within}
 use Rattle.window.specs.declared.area.Area.{Area}
-use Rattle.window.specs.Places.{reach}
 use Rattle.source.specs.declared.source.Source.{Source}
 use Rattle.source.specs.Origins.{Origin, origin_of}
-use Rattle.source.specs.Reaches.{reach_of}
 use Rattle.job.specs.declared.operation.FirstKind.{FirstKind}
 use Rattle.job.specs.declared.operation.FirstKind.TheVariants.{Nothing, HostPixels, Pixels, Pattern, HostBits, Bits}
 use Rattle.job.specs.declared.settings.Settings.{Settings}
 use Rattle.job.specs.Operations.{operation_at, first_kind, uses_second, blends, either}
-use Rattle.job.specs.Plans.{area_at, unit_at, side_of, Plan, plan_of, plan_at}
+use Rattle.job.specs.Plans.{area_at, unit_at, side_of, Plan, plan_of, plan_at, op_at}
 
 -- 4: pixels have any depth, 0 to 3; one-bit units only depths 0 and 1
 abbrev pub depth_taken : FirstKind → ℕ → Bool
@@ -68,9 +66,7 @@ all_limited s n =
 
 -- 8: sources and destination lie inside a memory of some size
 abbrev pub inside : Plan → ℕ → Bool
-inside p size =
-    nat_le (reach_of p.first p.target.height) size
-    && (nat_le (reach_of p.second p.target.height) size && nat_le (reach p.target (depth_format p.canvas).width) size)
+inside p size = lies_inside (op_at p) size
 
 -- the lowest number whose test fails, of the tests 3 to 8
 abbrev pub lowest : Bool → Bool → Bool → Bool → Bool → Bool → Option ℕ

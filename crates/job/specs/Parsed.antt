@@ -21,7 +21,7 @@ use Rattle.job.specs.declared.parsed.Formats.{Formats}
 use Rattle.job.specs.declared.settings.Settings.{Settings}
 use Rattle.job.specs.Operations.{first_kind, uses_second, blends, either}
 use Rattle.job.specs.Plans.{depth_at, overlay_at, side_of, area_at, Plan}
-use Rattle.job.specs.Grounds.{depth_taken, depths_taken, start_fits, limited, tested, or_7}
+use Rattle.job.specs.Grounds.{depth_taken, depths_taken, start_fits, limited, tested, or_7, inside}
 
 -- one-bit units have 8 bits at depth 0 and 16 at depth 1
 abbrev pub bit_unit_at : ℕ → Unit
@@ -122,3 +122,10 @@ plan_made s f r =
     onward (first_made s f.first) (λ a.
     onward (second_made s f.second) (λ b.
     onward (or_7 (limited area) area) (λ t. Ok (record { rule = r; first = a; second = b; canvas = f.canvas; target = t }))))
+
+-- what the operation with a code draws, tested from its formats to its place in a memory of some size
+abbrev pub plan_tested : Settings → ℕ → ℕ → Result Plan ℕ
+plan_tested s size n =
+    onward (parsed s n) (λ f.
+    onward (rule_of s n f.first f.second) (λ r.
+    onward (plan_made s f r) (λ p. tested 8 (inside p size) p)))

@@ -1,5 +1,5 @@
 -- A job as plain values, and what its calls answer and leave.
-use Rattle.std.specs.Prelude.{◌≡◌, ℕ, ◌+◌, ◌-◌, min, Bool, true, cond, ◌&&◌, List, [], length, Some, None, Ok, Err, Option, Result, ◌==◌, nat_le, nat_lt}
+use Rattle.std.specs.Prelude.{◌≡◌, ℕ, ◌+◌, ◌-◌, min, Bool, true, cond, ◌&&◌, List, [], length, Ok, Err, Option, Result, ◌==◌, nat_le, nat_lt}
 use Rattle.colour.specs.declared.Palette.{Palette}
 use Rattle.window.specs.Places.{pixels}
 use Rattle.source.specs.Origins.{awaited}
@@ -8,7 +8,7 @@ use Rattle.engine.specs.Laws.{EachHolds, OnlyPixels}
 use Rattle.engine.specs.Fed.{Stage, takes, fed, bytes_taken}
 use Rattle.job.specs.declared.settings.Settings.{Settings}
 use Rattle.job.specs.Plans.{Plan, plan_at, op_at}
-use Rattle.job.specs.Grounds.{grounds, inside}
+use Rattle.job.specs.Grounds.{grounds, inside, outcome}
 
 -- what is drawn, the size of the memory that it was cleared for, the pixels drawn, and the bytes that wait
 pub record Work : Type 0 where
@@ -30,9 +30,13 @@ pub data Clearing : Type 0 where
   cleared : Work → Clearing
   declined : Settings → ℕ → Clearing
 
+-- a plan, or a ground against it, as what clearing gives
+abbrev pub as_clearing : Settings → ℕ → Result Plan ℕ → Clearing
+as_clearing s size (Ok p) = cleared (fresh_work p size)
+as_clearing s size (Err n) = declined s n
+
 abbrev pub judged : Settings → ℕ → Option ℕ → Clearing
-judged s size None = cleared (fresh_work (plan_at s) size)
-judged s size (Some n) = declined s n
+judged s size o = as_clearing s size (outcome o (plan_at s))
 
 abbrev pub clearing : Settings → ℕ → Clearing
 clearing s size = judged s size (grounds s size)

@@ -5,7 +5,7 @@ ghost use Rattle.window.specs.Places.{shown};
 ghost use Rattle.source.specs.Rows.{shown_rows, rows_at};
 ghost use Rattle.job.specs.Operations.{code_of};
 ghost use Rattle.job.specs.Plans.{side_of, area_at, plan_at};
-ghost use Rattle.job.specs.Parsed.{format_bytes, expansion_of, level_blend, pixel_rule_of, rule_of, bit_rows, first_made, second_made, plan_made};
+ghost use Rattle.job.specs.Parsed.{format_bytes, expansion_of, level_blend, pixel_rule_of, rule_of, bit_rows, first_made, second_made, plan_made, plan_tested};
 ghost use Rattle.job.specs.Grounds.{limited, grounds, source_shown, plan_shown, or_7, outcome};
 
 use crate::operation::Operation;
@@ -180,11 +180,14 @@ impl Settings {
         })
     }
 
-    // The drawing, or the lowest ground against it over a memory of some size.
-    pub(crate) fn clear(&self, size: u32) -> Result<Drawing<Rule, Depth>, Refusal>
-        ensures { plan_shown result ≡ outcome (grounds self.now size) (plan_at self.now) }
+    // The drawing of an operation, inside a memory of some size.
+    fn drawing_inside(
+        &self,
+        operation: Operation,
+        size: u32,
+    ) -> Result<Drawing<Rule, Depth>, Refusal>
+        ensures { plan_shown result ≡ plan_tested self.now size (code_of operation) }
     {
-        let operation = Operation::try_from(self.operation)?;
         let formats = self.formats(operation)?;
         let rule = self.rule(operation, formats)?;
         let drawing = self.drawing(rule, formats)?;
@@ -192,5 +195,14 @@ impl Settings {
             return Err(Refusal::PastMemory);
         }
         Ok(drawing)
+    }
+
+    // The drawing, or the lowest ground against it over a memory of some size.
+    #[tactic(auto, using(crate::proofs::Starts::steps_are))]
+    pub(crate) fn clear(&self, size: u32) -> Result<Drawing<Rule, Depth>, Refusal>
+        ensures { plan_shown result ≡ outcome (grounds self.now size) (plan_at self.now) }
+    {
+        let operation = Operation::try_from(self.operation)?;
+        self.drawing_inside(operation, size)
     }
 }

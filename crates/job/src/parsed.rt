@@ -113,6 +113,7 @@ impl Settings {
     }
 
     // The formats of an operation's images. The first source comes last: its start bit is tested once every depth is taken.
+    #[tactic(auto, using(crate::proofs::Starts::parsed_meant))]
     pub(crate) fn formats(&self, operation: Operation) -> Result<Formats, Refusal>
         ensures { numbered result ≡ parsed self.now (code_of operation) }
     {

@@ -77,31 +77,6 @@ impl Begun {
         self.progress.drawn // those that their rule left count too
     }
 
-    // Ends the job.
-    pub fn close(self) -> Closed
-        ensures { result ≡ self.drawn }
-    {
-        let Begun {
-            drawing: _,
-            size: _,
-            progress,
-        } = self;
-        Closed {
-            drawn: progress.drawn,
-        }
-    }
-}
-
-impl Closed {
-    // How many pixels the job drew.
-    pub fn drawn(&self) -> u32
-        ensures { result ≡ self.now }
-    {
-        self.drawn // from its begin to its close
-    }
-}
-
-impl Begun {
     // Bytes for a job that the host serves. Answers the bytes taken and the pixels drawn.
     pub fn feed<M: Memory>(
         &mut self,
@@ -124,6 +99,7 @@ impl Begun {
     }
 
     // Draws the next pixels over a memory that is large enough.
+    #[tactic(auto, using(std::proofs::lemmas::Bool::Decides::nat_tests))]
     fn draw<M: Memory>(&self, memory: &mut M, palette: &Palette, allowance: u32) -> u32
         requires { self.now.size ≤ length (M.bytes memory.old) }
         ensures count { result ≡ min allowance (left self.now) }
@@ -135,6 +111,7 @@ impl Begun {
     }
 
     // Draws as many pixels as are allowed and left of a job that memory serves, and answers how many that were.
+    #[tactic(auto, using(window::proofs::Limits::pixels_few))]
     pub fn run<M: Memory>(
         &mut self,
         memory: &mut M,
@@ -155,5 +132,28 @@ impl Begun {
         let count = self.draw(memory, palette, allowance);
         self.progress.drawn += count;
         Ok(count)
+    }
+
+    // Ends the job.
+    pub fn close(self) -> Closed
+        ensures { result ≡ self.drawn }
+    {
+        let Begun {
+            drawing: _,
+            size: _,
+            progress,
+        } = self;
+        Closed {
+            drawn: progress.drawn,
+        }
+    }
+}
+
+impl Closed {
+    // How many pixels the job drew.
+    pub fn drawn(&self) -> u32
+        ensures { result ≡ self.now }
+    {
+        self.drawn // from its begin to its close
     }
 }
