@@ -1,9 +1,9 @@
--- A read and a put of a part are those of the memory below, from the start on.
+-- A read of a part is one of the memory below, from the start on, and what a put leaves there.
 use Rattle.std.proofs.Common.{◌≡◌, ℕ, ◌+◌, ◌<◌, ◌≤◌, List, length, set, Ok, sym, refl, ap, ◌∙◌, arith}
 use Rattle.std.proofs.lemmas.Bool.{lt-ltb, le-ltb}
-use Rattle.memory.specs.Bytes.{read_at, put_at}
+use Rattle.memory.specs.Bytes.{read_at}
 use Rattle.layers.specs.Part.{part, part_length, part_at, put_under}
-use Rattle.memory.proofs.Access.{read_in, put_in}
+use Rattle.memory.proofs.Access.{read_in}
 
 module _ (m : List ℕ) (start most a : ℕ) (h : a < length (part m start most)) where
   pub within : start + a < length m
@@ -12,9 +12,6 @@ module _ (m : List ℕ) (start most a : ℕ) (h : a < length (part m start most)
   pub part_read : read_at m (start + a) ≡ read_at (part m start most) a
   part_read =
       sym (read_in m (start + a) within) ∙ ap Ok (sym (part_at m start most a (omega (arith, part_length m start most)))) ∙ read_in (part m start most) a h
-
-  pub part_put : put_at m (start + a) ≡ put_at (part m start most) a
-  part_put = sym (put_in m (start + a) within) ∙ put_in (part m start most) a h
 
 pub under_in : (m : List ℕ) (start most a v : ℕ) → a < length (part m start most) → set m (start + a) v ≡ put_under m start most a v
 unfolding put_under

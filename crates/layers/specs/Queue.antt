@@ -1,5 +1,6 @@
 -- What a write queue keeps, and what each of its calls makes of that.
-use Rattle.std.specs.Prelude.{◌≡◌, ℕ, Bool, true, false, cond, List, [], ◌∷◌, ◌++◌, length, take, drop, ◌==◌, nat_lt}
+use Rattle.std.specs.Prelude.{◌≢◌, ℕ, Bool, cond, List, [], ◌∷◌, ◌++◌, AllPairs, length, take, drop, ◌==◌, nat_lt}
+use Rattle.std.specs.List.{list_any}
 use Rattle.layers.specs.declared.pending.Entry.{Entry}
 use Rattle.layers.specs.Entries.{entry}
 use Rattle.layers.specs.Laid.{laid}
@@ -17,9 +18,8 @@ abbrev pub over : Queue → List ℕ
 over q = laid q.below q.entries
 
 -- whether an address waits
-unfoldable pub waits : List Entry → ℕ → Bool
-waits [] a = false
-waits (e ∷ es) a = cond (e.address == a) true (waits es a)
+abbrev pub waits : List Entry → ℕ → Bool
+waits es a = list_any (λ e. e.address == a) es
 
 -- the entry of an address that waits with another value, where it stands: the newest, were there several
 unfoldable pub changed : List Entry → ℕ → ℕ → List Entry
@@ -49,6 +49,5 @@ unfoldable pub queued : Queue → ℕ → ℕ → Queue
 queued q a v = cond (nat_lt a (length q.below)) (taken q a v) q
 
 -- no address waits twice
-unfoldable pub Once : List Entry → Type 0
-Once [] = Unit {0}
-Once (e ∷ es) = (waits es e.address ≡ false) × Once es
+abbrev pub Once : List Entry → Type 0
+Once es = AllPairs (λ e f. e.address ≢ f.address) es

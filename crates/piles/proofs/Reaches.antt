@@ -6,7 +6,7 @@ use Rattle.std.proofs.lemmas.List.{length-set, get_or-set_same}
 use Rattle.memory.specs.Bytes.{read_at, put_at}
 use Rattle.memory.proofs.Access.{read_in, read_past}
 use Rattle.layers.specs.Part.{part, part_length, put_under}
-use Rattle.layers.specs.Queue.{queue, pushed, queued, taken, waits}
+use Rattle.layers.specs.Queue.{queue, pushed, queued, taken}
 use Rattle.piles.specs.Reach.{has}
 
 reached : (n s l a : ℕ) → ltb a (min l (n - s)) ≡ cond (ltb a l) (ltb (s + a) n) false
@@ -37,7 +37,7 @@ module _ (m : List ℕ) (s l a : ℕ) where
       ∙ ap (λ b. cond b (Ok v) (Err 12)) has_part
 
   pub first_has : (v : ℕ) → length (queued (queue (part m s l) []) a v).entries ≡ cond (has m s l a) 1 0
-  unfolding queued taken waits
+  unfolding queued taken
   first_has v = first (ltb a (length (part m s l))) ∙ ap (λ b. cond b 1 0) has_part
     where
       first : (b : Bool) → length (cond b (pushed (queue (part m s l) []) a v) (queue (part m s l) [])).entries ≡ cond b 1 0
