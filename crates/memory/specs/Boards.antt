@@ -47,14 +47,14 @@ of_bytes bs = of_cells 1 whole bs
 abbrev pub of_words : List ℕ → List ℕ
 of_words ws = of_cells 2 half ws
 
--- the byte at an address is the element of the block at that place
+-- what they show is short enough, and each byte of it is below 256
 pub bytes_sound : (bs : List ℕ) → Sound (of_bytes bs)
 bytes_sound bs = cells_sound 1 whole bs
 
 pub words_sound : (ws : List ℕ) → Sound (of_words ws)
 words_sound ws = cells_sound 2 half ws
 
--- a byte board shows the bytes of its block, and a word board the halves of its words
+-- the byte at an address is the element of the block at that place
 pub bytes_plain : (bs : List ℕ) → of_bytes bs ≡ view (min 16777216 (length bs)) (λ k. slice_index bs k)
 bytes_plain bs =
     rw one-mul

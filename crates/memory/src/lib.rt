@@ -1,7 +1,7 @@
 // Display memory, and the two boards that a maker can lend to it.
 #![tactic(auto)]
 
-ghost use Rattle.std.specs.Prelude.{◌≡◌, ℕ, ◌/◌, List, length, drop, slice_set};
+ghost use Rattle.std.specs.Prelude.{◌≡◌, ℕ, ◌/◌, ◌<◌, List, length, drop, slice_set};
 ghost use Rattle.refusal.specs.Numbers.{numbered};
 ghost use Rattle.memory.specs.Bytes.{Sound, read_at, put_at};
 ghost use Rattle.memory.specs.Cells.{CellLaws, of_cells, cells_sound};
@@ -123,6 +123,15 @@ impl<'a, C: Cell> Board<'a, C> {
         let Board { block } = self;
         block
     }
+
+    // Which cell of the block has an address.
+    fn place(&self, address: u32) -> usize
+        requires { address < length (of_cells C.BYTES C.byte self.now.block.now) }
+        ensures place { result ≡ address / C.BYTES }
+        ensures within { result < length self.now.block.now }
+    {
+        address as usize / C::BYTES
+    }
 }
 
 impl<C: Cell> Memory for Board<'_, C> {
@@ -139,7 +148,7 @@ impl<C: Cell> Memory for Board<'_, C> {
         if address >= self.size() {
             return Err(Refusal::NoSuchAddress);
         }
-        Ok(self.block[address as usize / C::BYTES].byte(address))
+        Ok(self.block[self.place(address)].byte(address))
     }
 
     // What lies past the display memory is never written.
@@ -151,7 +160,8 @@ impl<C: Cell> Memory for Board<'_, C> {
         if address >= self.size() {
             return Err(Refusal::NoSuchAddress);
         }
-        let cell = &mut self.block[address as usize / C::BYTES];
+        let place = self.place(address);
+        let cell = &mut self.block[place];
         *cell = cell.with_byte(address, value);
         Ok(())
     }
