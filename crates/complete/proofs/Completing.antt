@@ -14,7 +14,7 @@ use Rattle.engine.proofs.Laws.{feed_only}
 use Rattle.complete.specs.declared.part.Part.{Part}
 use Rattle.complete.specs.Parts.{Portion, portion_of, feed, run, sent_in, by_memory, allowed, advanced, parted}
 use Rattle.engine.specs.Inside.{lies_inside}
-use Rattle.complete.specs.Complete.{begun, completed, Accepted, Complete, Way, way_in_parts, left_by, completes, Completes}
+use Rattle.complete.specs.Complete.{begun, completed, Accepted, Complete, Way, way_in_parts, DrawnBy}
 
 pub stage_eq : (m n : List ℕ) (d e : ℕ) (w x : List ℕ) → m ≡ n → d ≡ e → w ≡ x
     → ◌≡◌ {A = Stage} (record { memory = m; drawn = d; waiting = w }) (record { memory = n; drawn = e; waiting = x })
@@ -35,7 +35,7 @@ module _ (o : Op) (p : Palette) where
 
   -- where the host serves an operation, only its bytes count
   by_host : by_memory o ≡ false → (s : Stage) (ps : List Portion) → parted o p s ps ≡ fed o p s (sent_in ps)
-  unfolding parted sent_in fed
+  unfolding fed
   by_host e s [] = refl
   by_host e s (feed xs ∷ ps) = by_host e (fed o p s xs) ps ∙ sym (fed_append o p s xs (sent_in ps))
   by_host e s (run n ∷ ps) =
@@ -66,7 +66,6 @@ module _ (o : Op) (p : Palette) where
   }
 
   by_allowances : by_memory o ≡ true → (s : Stage) (ps : List Portion) → Further s (parted o p s ps)
-  unfolding parted
   by_allowances e s [] = further_none s
   by_allowances e s (feed xs ∷ ps) =
       subst (λ t. Further s (parted o p t ps)) (sym (fed_ended o p s xs (takes_none e s.drawn))) (by_allowances e s ps)
@@ -107,18 +106,12 @@ module _ (o : Op) (p : Palette) where
             all_drawn = ap (λ t. t.drawn) is ∙ omega (arith, fed_most m (sent_in ps));
           }
 
--- what a way to draw owes, from memory m to n
-pub record Owed (w : Way) (m n : List ℕ) (complete : Bool) : Type 0 where
-  pub leaves : n ≡ left_by w m
-  pub ends : complete ≡ completes w m
-  pub whole : complete ≡ true → Completes w m n
-
 module _ (w : Way) (m : List ℕ) where
   -- where the operation is accepted, and the parts lead to a stage
-  pub owed : w.accepts (length m) ≡ true → Accepted w.operation (length m) → (n : List ℕ) (d : ℕ) (ws : List ℕ)
+  pub drawn_accepted : w.accepts (length m) ≡ true → Accepted w.operation (length m) → (n : List ℕ) (d : ℕ) (ws : List ℕ)
       → record { memory = n; drawn = d; waiting = ws } ≡ parted w.operation w.palette (begun m) w.portions
-      → (complete : Bool) → complete ≡ leb (pixels w.operation.target) d → Owed w m n complete
-  owed taken accepted n d ws e complete is =
+      → (complete : Bool) → complete ≡ leb (pixels w.operation.target) d → DrawnBy w m n complete
+  drawn_accepted taken accepted n d ws e complete is =
       let o = w.operation in
       let p = w.palette in
       let t = parted o p (begun m) w.portions in
@@ -134,8 +127,8 @@ module _ (w : Way) (m : List ℕ) where
       }
 
   -- where it is not
-  pub owed_declined : w.accepts (length m) ≡ false → Owed w m m false
-  owed_declined not_taken = record {
+  pub drawn_declined : w.accepts (length m) ≡ false → DrawnBy w m m false
+  drawn_declined not_taken = record {
     leaves = sym (cond-false (w.accepts (length m)) (parted w.operation w.palette (begun m) w.portions).memory m not_taken);
     ends = sym (ap (λ b. b && leb (pixels w.operation.target) (parted w.operation w.palette (begun m) w.portions).drawn) not_taken);
     whole = λ e. let z : ◌≡◌ {A = ℕ} 0 1 = cc in let n : ⊥ = omega arith in absurd n;
@@ -155,9 +148,9 @@ module _ (o : Op) (size : ℕ) (across : 1 ≤ o.target.width) (down : 1 ≤ o.t
 -- a drawing by parts that lies inside memory
 module _ (o : Op) (p : Palette) (ps : List Part) (m : List ℕ) (across : 1 ≤ o.target.width) (down : 1 ≤ o.target.height)
     (fits : o.target.left + o.target.width ≤ o.target.image) where
-  pub owed_inside : (size : ℕ) → size ≡ length m → true ≡ lies_inside o size → (n : List ℕ) (d : ℕ) (ws : List ℕ)
+  pub drawn_inside : (size : ℕ) → size ≡ length m → true ≡ lies_inside o size → (n : List ℕ) (d : ℕ) (ws : List ℕ)
       → record { memory = n; drawn = d; waiting = ws } ≡ parted o p (begun m) (map portion_of ps)
-      → (complete : Bool) → complete ≡ leb (pixels o.target) d → Owed (way_in_parts o p ps) m n complete
-  owed_inside size size_is tested =
+      → (complete : Bool) → complete ≡ leb (pixels o.target) d → DrawnBy (way_in_parts o p ps) m n complete
+  drawn_inside size size_is tested =
       let inside : lies_inside o (length m) ≡ true = sym (tested ∙ ap (lies_inside o) size_is) in
-      owed (way_in_parts o p ps) m inside (accepted_inside o (length m) across down fits inside)
+      drawn_accepted (way_in_parts o p ps) m inside (accepted_inside o (length m) across down fits inside)

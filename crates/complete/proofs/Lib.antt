@@ -1,4 +1,3 @@
-pub mod Parting
 pub mod Completing
 pub mod Passing
 pub mod Commuting

@@ -1,5 +1,5 @@
 -- A complete operation: one that is accepted, and whose pixels are all drawn.
-use Rattle.std.specs.Prelude.{◌≡◌, ℕ, ◌+◌, ◌<◌, ◌≤◌, Bool, cond, ◌&&◌, ◌⊎◌, List, [], map, length, nat_le, slice_index}
+use Rattle.std.specs.Prelude.{◌≡◌, ℕ, ◌+◌, ◌<◌, ◌≤◌, Bool, true, cond, ◌&&◌, ◌⊎◌, List, [], map, length, nat_le, slice_index}
 use Rattle.colour.specs.declared.Palette.{Palette}
 use Rattle.window.specs.Places.{pixels, reach}
 use Rattle.source.specs.Origins.{Origin, taken_from, taken}
@@ -60,6 +60,15 @@ completes w m =
 -- from memory m to n the operation was drawn, whole
 abbrev pub Completes : Way → List ℕ → List ℕ → Type 0
 Completes w m n = Complete w.operation w.palette (sent_in w.portions) m n
+
+-- drawing in a way led from memory m to n, and complete is what it answered
+pub record DrawnBy (w : Way) (m n : List ℕ) (complete : Bool) : Type 0 where
+  -- memory is what the parts leave
+  pub leaves : n ≡ left_by w m
+  -- the answer says whether the operation was accepted and all its pixels are drawn
+  pub ends : complete ≡ completes w m
+  -- if it says so, the operation was accepted and drawn whole
+  pub whole : complete ≡ true → Completes w m n
 
 -- byte x belongs to a pixel of the operation
 abbrev pub DrawsOn : Op → ℕ → Type 0

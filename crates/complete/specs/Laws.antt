@@ -17,6 +17,15 @@ pub record BothWhole (v w : Way) (m n : List ℕ) : Type 0 where
   pub early : Completes v m (left_by v m)
   pub late : Completes w (left_by v m) n
 
+-- drawing in one way and then in another led from memory m to n, and complete is what the two answered together
+pub record DrawnByBoth (v w : Way) (m n : List ℕ) (complete : Bool) : Type 0 where
+  -- memory is what the second leaves of what the first left
+  pub leaves : n ≡ left_by_both v w m
+  -- the answer says whether both are complete
+  pub ends : complete ≡ both_complete v w m
+  -- if it says so, both operations were accepted and drawn whole
+  pub whole : complete ≡ true → BothWhole v w m n
+
 -- two operations that do not touch what the other draws or reads, each drawn in any two ways: if all four drawings are
 -- complete, the order in which they were drawn does not show in memory
 abbrev pub OrderHidden : Way → Way → Way → Way → List ℕ → List ℕ → Bool → List ℕ → List ℕ → Type 0

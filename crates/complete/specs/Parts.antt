@@ -1,5 +1,6 @@
 -- A drawing in parts: what a host gives it at a time.
-use Rattle.std.specs.Prelude.{ℕ, ◌+◌, ◌-◌, min, Bool, cond, List, [], ◌∷◌, ◌++◌, ◌==◌}
+use Rattle.std.specs.Prelude.{ℕ, ◌+◌, ◌-◌, min, Bool, cond, List, [], ◌==◌, fold}
+use Rattle.std.specs.List.{flat_map}
 use Rattle.colour.specs.declared.Palette.{Palette}
 use Rattle.window.specs.Places.{pixels}
 use Rattle.source.specs.Origins.{awaited}
@@ -17,11 +18,14 @@ abbrev pub portion_of : Part → Portion
 portion_of (part.Feed xs) = feed xs.now
 portion_of (part.Run n) = run n
 
+-- the bytes that a portion brings
+abbrev pub sent_by : Portion → List ℕ
+sent_by (feed xs) = xs
+sent_by (run n) = []
+
 -- the bytes of the feeds, in order
-unfoldable pub sent_in : List Portion → List ℕ
-sent_in [] = []
-sent_in (feed xs ∷ ps) = xs ++ sent_in ps
-sent_in (run n ∷ ps) = sent_in ps
+abbrev pub sent_in : List Portion → List ℕ
+sent_in ps = flat_map sent_by ps
 
 -- whether memory alone serves an operation
 abbrev pub by_memory : Op → Bool
@@ -41,6 +45,5 @@ stepped o p s (feed xs) = fed o p s xs
 stepped o p s (run n) = cond (by_memory o) (advanced o p s (allowed o s n)) s
 
 -- parts, one after another
-unfoldable pub parted : Op → Palette → Stage → List Portion → Stage
-parted o p s [] = s
-parted o p s (x ∷ xs) = parted o p (stepped o p s x) xs
+abbrev pub parted : Op → Palette → Stage → List Portion → Stage
+parted o p s ps = fold (stepped o p) s ps

@@ -5,7 +5,7 @@ ghost use Rattle.source.specs.Origins.{origin_of, image};
 ghost use Rattle.complete.specs.Parts.{portion_of, sent_in};
 ghost use Rattle.complete.specs.Complete.{way_in_parts};
 ghost use Rattle.complete.specs.Undo.{exclusive_or_of, SourceApart};
-ghost use Rattle.complete.specs.Laws.{left_by_both, both_complete};
+ghost use Rattle.complete.specs.Laws.{DrawnByBoth};
 
 use crate::laws::twice;
 use crate::operation::Drawn;
@@ -64,8 +64,7 @@ pub fn exclusive_or_twice<F: Readable + Copy, D: Canvas + Copy, M: Memory>(
     again: &[Part<'_>],
     memory: M,
 ) -> Drawn<M>
-    ensures leaves { M.bytes result.memory ≡ left_by_both (way_in_parts (exclusive_or_of F.format D.format D.narrowed operation.now) palette.now parts.now) (way_in_parts (exclusive_or_of F.format D.format D.narrowed operation.now) palette.now again.now) (M.bytes memory) }
-    ensures ends { result.complete ≡ both_complete (way_in_parts (exclusive_or_of F.format D.format D.narrowed operation.now) palette.now parts.now) (way_in_parts (exclusive_or_of F.format D.format D.narrowed operation.now) palette.now again.now) (M.bytes memory) }
+    ensures drawn { DrawnByBoth (way_in_parts (exclusive_or_of F.format D.format D.narrowed operation.now) palette.now parts.now) (way_in_parts (exclusive_or_of F.format D.format D.narrowed operation.now) palette.now again.now) (M.bytes memory) (M.bytes result.memory) result.complete }
     ensures restored { sent_in (map portion_of parts.now) ≡ sent_in (map portion_of again.now) → SourceApart (exclusive_or_of F.format D.format D.narrowed operation.now) → result.complete ≡ true → M.bytes result.memory ≡ M.bytes memory }
 {
     let once = PartedDrawing {

@@ -1,7 +1,7 @@
 // The laws of complete operations, each as a call that draws.
-ghost use Rattle.std.specs.Prelude.{◌≡◌, true, ◌&&◌};
+ghost use Rattle.std.specs.Prelude.{◌≡◌, ◌&&◌};
 ghost use Rattle.complete.specs.Complete.{OnlyBoth};
-ghost use Rattle.complete.specs.Laws.{left_by_both, both_complete, BothWhole, OrderHidden, Undone, OrderDoesNotShow, ExclusiveOrUndoesItself, RectangleOnly};
+ghost use Rattle.complete.specs.Laws.{left_by_both, both_complete, DrawnByBoth, OrderHidden, Undone, OrderDoesNotShow, ExclusiveOrUndoesItself, RectangleOnly};
 
 use crate::operation::{CompleteOperation, Drawn};
 use memory::Memory;
@@ -12,9 +12,7 @@ fn both<V: CompleteOperation, W: CompleteOperation, M: Memory>(
     second: &W,
     memory: M,
 ) -> Drawn<M>
-    ensures leaves { M.bytes result.memory ≡ left_by_both (V.way first.now) (W.way second.now) (M.bytes memory) }
-    ensures ends { result.complete ≡ both_complete (V.way first.now) (W.way second.now) (M.bytes memory) }
-    ensures whole { result.complete ≡ true → BothWhole (V.way first.now) (W.way second.now) (M.bytes memory) (M.bytes result.memory) }
+    ensures { DrawnByBoth (V.way first.now) (W.way second.now) (M.bytes memory) (M.bytes result.memory) result.complete }
 {
     let Drawn {
         memory,
@@ -37,37 +35,8 @@ pub struct Orders<M, N> {
     pub complete: bool,
 }
 
-// Draws a and then b over one memory, and b and then a over another.
-fn both_orders<
-    V: CompleteOperation,
-    W: CompleteOperation,
-    X: CompleteOperation,
-    Y: CompleteOperation,
-    M: Memory,
-    N: Memory,
->(a: &V, b: &W, b_again: &X, a_again: &Y, one: M, other: N) -> Orders<M, N>
-    ensures one { M.bytes result.one ≡ left_by_both (V.way a.now) (W.way b.now) (M.bytes one) }
-    ensures other { N.bytes result.other ≡ left_by_both (X.way b_again.now) (Y.way a_again.now) (N.bytes other) }
-    ensures ends { result.complete ≡ (both_complete (V.way a.now) (W.way b.now) (M.bytes one) && both_complete (X.way b_again.now) (Y.way a_again.now) (N.bytes other)) }
-    ensures whole { result.complete ≡ true → BothWhole (V.way a.now) (W.way b.now) (M.bytes one) (M.bytes result.one) × BothWhole (X.way b_again.now) (Y.way a_again.now) (N.bytes other) (N.bytes result.other) }
-{
-    let Drawn {
-        memory: one,
-        complete: before,
-    } = both(a, b, one);
-    let Drawn {
-        memory: other,
-        complete: after,
-    } = both(b_again, a_again, other);
-    Orders {
-        one,
-        other,
-        complete: before && after,
-    }
-}
-
-// The same, for two operations that are each drawn in two ways. Where neither touches what the other draws or reads, the
-// memories end alike.
+// Draws two operations, each in two ways: a and then b over one memory, and b and then a over another. Where neither
+// touches what the other draws or reads, the memories end alike.
 pub fn in_either_order<
     V: CompleteOperation,
     W: CompleteOperation,
@@ -84,7 +53,19 @@ pub fn in_either_order<
     ensures law { OrderDoesNotShow }
     ensures rectangle { RectangleOnly }
 {
-    both_orders(a, b, b_again, a_again, one, other)
+    let Drawn {
+        memory: one,
+        complete: before,
+    } = both(a, b, one);
+    let Drawn {
+        memory: other,
+        complete: after,
+    } = both(b_again, a_again, other);
+    Orders {
+        one,
+        other,
+        complete: before && after,
+    }
 }
 
 // Draws an operation in one way, and again in another. An exclusive or leaves memory as it was.
@@ -93,8 +74,7 @@ pub fn twice<V: CompleteOperation, W: CompleteOperation, M: Memory>(
     again: &W,
     memory: M,
 ) -> Drawn<M>
-    ensures leaves { M.bytes result.memory ≡ left_by_both (V.way operation.now) (W.way again.now) (M.bytes memory) }
-    ensures ends { result.complete ≡ both_complete (V.way operation.now) (W.way again.now) (M.bytes memory) }
+    ensures drawn { DrawnByBoth (V.way operation.now) (W.way again.now) (M.bytes memory) (M.bytes result.memory) result.complete }
     ensures undone { Undone (V.way operation.now) (W.way again.now) (M.bytes memory) result.complete (M.bytes result.memory) }
     ensures law { ExclusiveOrUndoesItself }
 {

@@ -1,6 +1,5 @@
 // A way to draw one operation, whole.
-ghost use Rattle.std.specs.Prelude.{◌≡◌, true};
-ghost use Rattle.complete.specs.Complete.{Way, left_by, completes, Completes};
+ghost use Rattle.complete.specs.Complete.{Way, DrawnBy};
 
 use memory::Memory;
 
@@ -16,7 +15,5 @@ pub trait CompleteOperation {
 
     // Draws the operation by its parts, if it is accepted.
     fn draw<M: Memory>(&self, memory: M) -> Drawn<M>
-        ensures leaves { M.bytes result.memory ≡ left_by (way self.now) (M.bytes memory) }
-        ensures ends { result.complete ≡ completes (way self.now) (M.bytes memory) }
-        ensures whole { result.complete ≡ true → Completes (way self.now) (M.bytes memory) (M.bytes result.memory) };
+        ensures { DrawnBy (way self.now) (M.bytes memory) (M.bytes result.memory) result.complete };
 }

@@ -5,7 +5,8 @@ use Rattle.colour.specs.declared.Palette.{Palette}
 use Rattle.window.specs.Places.{pixels}
 use Rattle.complete.specs.declared.part.Part.{Part}
 use Rattle.complete.specs.Parts.{portion_of, parted}
-use Rattle.complete.proofs.Completing.{Owed, owed, owed_declined}
+use Rattle.complete.specs.Complete.{DrawnBy}
+use Rattle.complete.proofs.Completing.{drawn_accepted, drawn_declined}
 use Rattle.job.specs.declared.settings.Settings.{Settings}
 use Rattle.job.specs.Plans.{plan_at, op_at}
 use Rattle.job.specs.Grounds.{grounds}
@@ -31,18 +32,18 @@ module _ (s : Settings) (m : List ℕ) where
     serves_fresh = rw fresh.1 (grind (arith, nat_tests))
 
   module _ (p : Palette) (ps : List Part) (n : List ℕ) (complete : Bool) where
-    pub owed_refused : (t : Settings) (k : ℕ) → declined t k ≡ clearing s (length m) → n ≡ m → complete ≡ false → Owed (way_of s p ps) m n complete
-    owed_refused t k e same none =
-        rw (same, none) (owed_declined (way_of s p ps) m (judged_declined s t (length m) k (grounds s (length m)) e))
+    pub drawn_refused : (t : Settings) (k : ℕ) → declined t k ≡ clearing s (length m) → n ≡ m → complete ≡ false → DrawnBy (way_of s p ps) m n complete
+    drawn_refused t k e same none =
+        rw (same, none) (drawn_declined (way_of s p ps) m (judged_declined s t (length m) k (grounds s (length m)) e))
 
-    pub owed_job : (w : Work) → cleared w ≡ clearing s (length m)
+    pub drawn_job : (w : Work) → cleared w ≡ clearing s (length m)
         → n ≡ (parted (op_at w.plan) p (stage_of w m) (map portion_of ps)).memory
         → complete ≡ leb (pixels w.plan.target) (parted (op_at w.plan) p (stage_of w m) (map portion_of ps)).drawn
-        → Owed (way_of s p ps) m n complete
-    owed_job w e memory ended =
+        → DrawnBy (way_of s p ps) m n complete
+    drawn_job w e memory ended =
         let v = way_of s p ps in
         let is = fresh w e in
         let t = parted (op_at w.plan) p (stage_of w m) v.portions in
-        owed v m (ap (λ o. not (is_some o)) is.0) (accepted_settings s (length m) is.0) n t.drawn t.waiting
+        drawn_accepted v m (ap (λ o. not (is_some o)) is.0) (accepted_settings s (length m) is.0) n t.drawn t.waiting
         (ap (λ x. record { memory = x; drawn = t.drawn; waiting = t.waiting }) memory ∙ ap (λ x. parted (op_at x.plan) p (stage_of x m) v.portions) is.1)
         complete (ended ∙ ap (λ x. leb (pixels x.plan.target) t.drawn) is.1)

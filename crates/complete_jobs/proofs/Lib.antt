@@ -1,5 +1,4 @@
 pub mod Accepting
 pub mod Stepping
-pub mod Parting
 pub mod Clearing
 pub mod Undoing

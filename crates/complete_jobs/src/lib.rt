@@ -5,7 +5,7 @@ ghost use Rattle.window.specs.Places.{pixels};
 ghost use Rattle.complete.specs.Parts.{portion_of, stepped, parted};
 ghost use Rattle.job.specs.Plans.{op_at};
 ghost use Rattle.job.specs.Works.{serves, stage_of, at_stage};
-ghost use Rattle.complete.specs.Laws.{left_by_both, both_complete};
+ghost use Rattle.complete.specs.Laws.{DrawnByBoth};
 ghost use Rattle.complete_jobs.specs.Ways.{way_of};
 ghost use Rattle.complete_jobs.specs.Undo.{SettingsUndone};
 
@@ -79,8 +79,7 @@ pub fn settings_twice<V: CompleteOperation, W: CompleteOperation, M: Memory>(
     again: &W,
     memory: M,
 ) -> Drawn<M>
-    ensures leaves { M.bytes result.memory ≡ left_by_both (V.way operation.now) (W.way again.now) (M.bytes memory) }
-    ensures ends { result.complete ≡ both_complete (V.way operation.now) (W.way again.now) (M.bytes memory) }
+    ensures drawn { DrawnByBoth (V.way operation.now) (W.way again.now) (M.bytes memory) (M.bytes result.memory) result.complete }
     ensures undone { SettingsUndone (V.way operation.now) (W.way again.now) (M.bytes memory) result.complete (M.bytes result.memory) }
 {
     twice(operation, again, memory)

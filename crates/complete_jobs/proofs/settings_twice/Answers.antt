@@ -1,11 +1,5 @@
 use Rattle.complete_jobs.proofs.Undoing.{settings_undone}
 use Rattle.complete_jobs.proofs.settings_twice.Goals as goal
 
-pub returns : goal.returns
-returns g c =
-    let drawn = c.twice.ensures in
-    record {
-      leaves = drawn.leaves;
-      ends = drawn.ends;
-      undone = settings_undone _ _ _ _ _ drawn.undone;
-    }
+pub returns-clause-undone : goal.returns-clause-undone
+returns-clause-undone g c = settings_undone _ _ _ _ _ c.twice.ensures.undone

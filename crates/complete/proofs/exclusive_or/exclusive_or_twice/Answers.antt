@@ -20,10 +20,8 @@ returns g c =
     let b = c.drawing-2.ensures in
     let both = c.twice.ensures in
     let all =
-    restores o _ _ c.args.palette.now c.args.parts.now c.args.again.now
-    (g.M.Memory.bytes c.args.memory) (g.M.Memory.bytes c.twice.result.memory) c.twice.result.complete
-    x
+    restores c.args.palette.now c.args.parts.now c.args.again.now x
     (drawing_op f d narrow w c.drawing.result a.rule a.canvas a.first a.second a.target)
     (drawing_op f d narrow w c.drawing-2.result b.rule b.canvas b.first b.second b.target)
-    both.leaves both.ends both.undone in
-    record { leaves = all.leaves; ends = all.ends; restored = all.restored }
+    both.drawn both.undone in
+    record { drawn = all.drawn; restored = all.restored }

@@ -1,19 +1,14 @@
-use Rattle.std.proofs.Common.{leb, ap, ◌∙◌}
-use Rattle.window.specs.Places.{pixels}
-use Rattle.complete_jobs.proofs.Parting.{one_part_more, all_parts}
+use Rattle.std.proofs.Common.{map, take}
+use Rattle.complete.specs.Parts.{portion_of}
+use Rattle.complete.proofs.Framing.{parted_only}
+use Rattle.job.specs.Plans.{op_at}
+use Rattle.job.specs.Works.{stage_of}
 use Rattle.complete_jobs.proofs.PartedJob.draw_parts.Goals as goal
 
-pub loop-part-preserved : goal.loop-part-preserved
-loop-part-preserved g c =
-    one_part_more _ _ _ _ _ _ _ c.loop-part.invariant _ _ _ c.loop-part-test.true c.step.ensures.job c.step.ensures.memory
-
-pub returns : goal.returns
-returns g c =
-    let all = all_parts _ _ _ _ _ _ _ c.loop-part.invariant c.loop-part-test.false in
-    record {
-      memory = ap (λ s. s.memory) all;
-      ended =
-          c.is_over-complete.ensures
-          ∙ ap (λ w. leb (pixels w.plan.target) c.loop-part.begun.drawn) c.loop-part.invariant.job
-          ∙ ap (λ s. leb (pixels c.args.begun.plan.target) s.drawn) all;
-    }
+-- memory is as long as it was
+pub step-requires : goal.step-requires
+step-requires g c =
+    let w = c.args.begun in
+    let parts = map portion_of (take c.loop-part.part-index c.args.self.now.parts.now) in
+    let kept = parted_only (op_at w.plan) c.args.self.now.palette (stage_of w (g.M.Memory.bytes c.args.memory.now)) parts in
+    rw (c.loop-part.invariant.job, c.loop-part.invariant.memory, kept.size) c.requires

@@ -1,8 +1,6 @@
 use Rattle.std.proofs.Common.{length, ap, ◌∙◌}
-use Rattle.complete.proofs.Completing.{Owed}
 use Rattle.job.specs.Works.{cleared, clearing}
-use Rattle.complete_jobs.specs.Ways.{way_of}
-use Rattle.complete_jobs.proofs.Clearing.{owed_refused, serves_fresh, owed_job}
+use Rattle.complete_jobs.proofs.Clearing.{drawn_refused, serves_fresh, drawn_job}
 use Rattle.complete_jobs.proofs.PartedJobCompleteOperation.draw.Goals as goal
 use Rattle.complete_jobs.proofs.PartedJobCompleteOperation.draw.Goals.{in-Ok, in-Err}
 
@@ -16,12 +14,10 @@ returns g c =
     let self = c.args.self.now in
     let m = g.M.Memory.bytes c.args.memory in
     let set = ap (λ s. clearing s (length m)) c.new.ensures in
-    let due : Owed (way_of self.settings self.palette self.parts.now) m (g.M.Memory.bytes c.match-clear.memory) c.match-clear.complete =
     elim c.match-clear.branch [
       | in-Ok w ↦
-          owed_job self.settings m self.palette self.parts.now _ _ w.begin.result (ap cleared w.begin.ensures.work ∙ w.in-Ok.ensures.answer ∙ set)
+          drawn_job self.settings m self.palette self.parts.now _ _ w.begin.result (ap cleared w.begin.ensures.work ∙ w.in-Ok.ensures.answer ∙ set)
           (ap g.M.Memory.bytes w.memory-is ∙ w.draw_parts-complete.ensures.memory) (w.complete-is ∙ w.draw_parts-complete.ensures.ended)
       | in-Err w ↦
-          owed_refused self.settings m self.palette self.parts.now _ _ _ _ (w.in-Err.ensures.answer ∙ set) (ap g.M.Memory.bytes w.memory-is) w.complete-is
-    ] in
-    record { leaves = due.leaves; ends = due.ends; whole = due.whole }
+          drawn_refused self.settings m self.palette self.parts.now _ _ _ _ (w.in-Err.ensures.answer ∙ set) (ap g.M.Memory.bytes w.memory-is) w.complete-is
+    ]
