@@ -1,5 +1,6 @@
 -- Whole inputs: the lines in them, and what is written for them.
-use Rattle.std.specs.Prelude.{◌≡◌, ℕ, cond, List, [], ◌∷◌, ◌++◌, ◌==◌}
+use Rattle.std.specs.Prelude.{◌≡◌, ℕ, cond, List, [], ◌∷◌, ◌++◌, ◌==◌, map, fold}
+use Rattle.std.specs.List.{flat_map, scan}
 use Rattle.panel.specs.State.{State}
 use Rattle.bench_lines.specs.Answers.{reply_line}
 use Rattle.bench_lines.specs.Commands.{command_of}
@@ -14,15 +15,13 @@ lines_from begun (c ∷ cs) = cond (c == 10) (begun ∷ lines_from [] cs) (lines
 abbrev pub lines : List ℕ → List (List ℕ)
 lines = lines_from []
 
--- what is written for some lines, one answer after another
-unfoldable pub transcript : State → List (List ℕ) → List ℕ
-transcript s [] = []
-transcript s (l ∷ ls) = reply_line (line_reply s (command_of l)) ++ transcript (line_after s (command_of l)) ls
+-- what is written for some lines: each is answered by the panel that the lines before it left
+abbrev pub transcript : State → List (List ℕ) → List ℕ
+transcript s ls = flat_map reply_line (scan line_after line_reply s (map command_of ls))
 
 -- the panel after some lines
-unfoldable pub end_of : State → List (List ℕ) → State
-end_of s [] = s
-end_of s (l ∷ ls) = end_of (line_after s (command_of l)) ls
+abbrev pub end_of : State → List (List ℕ) → State
+end_of s ls = fold line_after s (map command_of ls)
 
 -- the lines ls were obeyed: t and written are what the panel and the output then are
 pub record Replayed (s : State) (ls : List (List ℕ)) (before : List ℕ) (t : State) (written : List ℕ) : Type 0 where

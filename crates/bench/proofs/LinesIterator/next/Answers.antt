@@ -1,6 +1,5 @@
-use Rattle.std.proofs.Common.{rules, ◌∷◌, ◌+◌, length, take, sym, ap, ◌∙◌, arith}
+use Rattle.std.proofs.Common.{rules, ◌+◌, length, sym, ap, arith}
 use Rattle.std.proofs.lemmas.Slice.{between_to_end}
-use Rattle.bench.specs.Scripts.{lines}
 use Rattle.bench.proofs.FirstLine.{lines_none, lines_next}
 use Rattle.bench.proofs.LinesIterator.next.Goals as goal
 
@@ -13,7 +12,8 @@ next_line : goal.returns-clause-steps
 next_line c =
     let xs = c.args.self.now.0.now in
     let rest = between_to_end xs (c.in_ok-end.end + 1) (length xs) (omega arith) in
-    lines_next xs c.in_ok-end.end (sym c.in_ok-end.ensures) ∙ ap (λ r. take c.in_ok-end.end xs ∷ lines r) (sym rest)
+    let next = lines_next xs c.in_ok-end.end (sym c.in_ok-end.ensures) in
+    cc
 
 pub returns-clause-steps : goal.returns-clause-steps
 returns-clause-steps = next_line
