@@ -1,15 +1,16 @@
 -- Parts that draw every pixel make a complete operation.
 use Rattle.std.proofs.Common.{◌≡◌, ℕ, ◌+◌, ◌-◌, ◌≤◌, Bool, true, false, ◌&&◌, leb, List, [], ◌∷◌, map, length, sym, refl, ap, ◌∙◌, subst, ⊎_elim, add_assoc, arith, eqb-true, leb-true}
 use Rattle.std.proofs.lemmas.Bool.{cases_lt, cond-true, cond-false}
+use Rattle.std.proofs.lemmas.List.Sums.{fold-append}
 use Rattle.colour.specs.declared.Palette.{Palette}
 use Rattle.std.proofs.lemmas.Bool.Decides.{nat_tests}
 use Rattle.window.specs.Places.{pixels}
 use Rattle.source.specs.Origins.{awaited}
 use Rattle.engine.specs.Painted.{Op, plotted, painted}
-use Rattle.engine.specs.Fed.{Stage, takes, fed, bytes_taken}
+use Rattle.engine.specs.Fed.{Stage, takes, takes_at, byte_come, byte_fed, fed, bytes_taken, Feed}
 use Rattle.engine.specs.Laws.{OnlyPixels}
 use Rattle.engine.proofs.Orders.{cut}
-use Rattle.engine.proofs.Feeding.{fed_append, fed_ended}
+use Rattle.feeding.proofs.Feeding.{fed_ended}
 use Rattle.engine.proofs.Laws.{feed_only}
 use Rattle.complete.specs.declared.part.Part.{Part}
 use Rattle.complete.specs.Parts.{Portion, portion_of, feed, run, sent_in, by_memory, allowed, advanced, parted}
@@ -25,7 +26,8 @@ module _ (o : Op) (p : Palette) where
   pub fed_only : (s : Stage) (xs : List ℕ) → OnlyPixels o s.drawn ((fed o p s xs).drawn - s.drawn) s.memory (fed o p s xs).memory
   fed_only s xs =
       let t = fed o p s xs in
-      feed_only o p s t xs (bytes_taken o p s xs) (t.drawn - s.drawn) (record { after = refl; taken_is = refl; drawn_is = refl })
+      let feeds : Feed o p s xs t (bytes_taken o p s xs) (t.drawn - s.drawn) = record { after = refl; taken_is = refl; drawn_is = refl } in
+      feed_only o p feeds
 
   fed_most : (m xs : List ℕ) → (fed o p (begun m) xs).drawn ≤ pixels o.target
   fed_most m xs =
@@ -35,9 +37,8 @@ module _ (o : Op) (p : Palette) where
 
   -- where the host serves an operation, only its bytes count
   by_host : by_memory o ≡ false → (s : Stage) (ps : List Portion) → parted o p s ps ≡ fed o p s (sent_in ps)
-  unfolding fed
   by_host e s [] = refl
-  by_host e s (feed xs ∷ ps) = by_host e (fed o p s xs) ps ∙ sym (fed_append o p s xs (sent_in ps))
+  by_host e s (feed xs ∷ ps) = by_host e (fed o p s xs) ps ∙ sym (fold-append (byte_fed o p) s xs (sent_in ps))
   by_host e s (run n ∷ ps) =
       ap (λ t. parted o p t ps) (cond-false (by_memory o) (advanced o p s (allowed o s n)) s e) ∙ by_host e s ps
 
@@ -68,7 +69,7 @@ module _ (o : Op) (p : Palette) where
   by_allowances : by_memory o ≡ true → (s : Stage) (ps : List Portion) → Further s (parted o p s ps)
   by_allowances e s [] = further_none s
   by_allowances e s (feed xs ∷ ps) =
-      subst (λ t. Further s (parted o p t ps)) (sym (fed_ended o p s xs (takes_none e s.drawn))) (by_allowances e s ps)
+      subst (λ t. Further s (parted o p t ps)) (sym (fed_ended (takes_at o) (byte_come o p) s xs (takes_none e s.drawn))) (by_allowances e s ps)
   by_allowances e s (run n ∷ ps) =
       subst (λ t. Further s (parted o p t ps)) (sym (cond-true (by_memory o) (advanced o p s (allowed o s n)) s e))
       (further_more s (allowed o s n) (parted o p (advanced o p s (allowed o s n)) ps) (omega arith) (by_allowances e (advanced o p s (allowed o s n)) ps))

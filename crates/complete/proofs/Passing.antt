@@ -32,13 +32,11 @@ module _ (o : Op) (p : Palette) (Good : List ℕ → Type 0) (kept : (v k : ℕ)
       elim (ltb (length bs) (awaited o.first)) as P [ true ↦ record { good = f.good; far = f.far } | false ↦ whole_from from s (number bs) f ]
 
   pub byte_from : (from : ℕ) (s : Stage) (b : ℕ) → From from s → From from (byte_fed o p s b)
-  unfolding byte_fed
   byte_from from s b f =
       let P : Bool → Type 0 = λ t. From from (cond t (come o p s (s.waiting ++ b ∷ [])) s) in
       elim (takes o s.drawn) as P [ true ↦ come_from from s (s.waiting ++ b ∷ []) f | false ↦ f ]
 
   pub fed_from : (from : ℕ) (s : Stage) (xs : List ℕ) → From from s → From from (fed o p s xs)
-  unfolding fed
   fed_from from s [] f = f
   fed_from from s (x ∷ xs) f = fed_from from (byte_fed o p s x) xs (byte_from from s x f)
 
@@ -63,14 +61,12 @@ module _ (o : Op) (p : Palette) (Good : List ℕ → Type 0) (kept : (v k : ℕ)
         elim (ltb (length bs) (awaited o.first)) as P [ true ↦ refl | false ↦ whole_past s (number bs) f ]
 
     byte_past : (s : Stage) (b : ℕ) → From from s → byte_fed o p (moved s) b ≡ moved (byte_fed o p s b)
-    unfolding byte_fed
     byte_past s b f =
         let bs = s.waiting ++ b ∷ [] in
         let P : Bool → Type 0 = λ t. cond t (come o p (moved s) bs) (moved s) ≡ moved (cond t (come o p s bs) s) in
         elim (takes o s.drawn) as P [ true ↦ come_past s bs f | false ↦ refl ]
 
     pub fed_past : (s : Stage) (xs : List ℕ) → From from s → fed o p (moved s) xs ≡ moved (fed o p s xs)
-    unfolding fed
     fed_past s [] f = refl
     fed_past s (x ∷ xs) f =
         ap (λ t. fed o p t xs) (byte_past s x f) ∙ fed_past (byte_fed o p s x) xs (byte_from from s x f)

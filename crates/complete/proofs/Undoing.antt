@@ -23,9 +23,9 @@ use Rattle.rules.specs.declared.Raster.{Raster}
 use Rattle.rules.specs.Yields.{raster_yields}
 use Rattle.engine.specs.declared.drawing.Drawing.{Drawing}
 use Rattle.engine.specs.Painted.{Op, op_of, put_colour, plotted, painted}
-use Rattle.engine.specs.Fed.{Stage, takes, due, whole, number, come, byte_fed, fed}
+use Rattle.engine.specs.Fed.{Stage, takes, takes_at, due, whole, number, come, byte_come, byte_fed, fed}
 use Rattle.engine.specs.Laws.{pixel_at}
-use Rattle.engine.proofs.Feeding.{fed_ended}
+use Rattle.feeding.proofs.Feeding.{fed_ended}
 use Rattle.engine.proofs.Orders.{painted_kept, past, undone}
 use Rattle.complete.specs.declared.exclusive_or.ExclusiveOr.{ExclusiveOr}
 use Rattle.complete.specs.declared.part.Part.{Part}
@@ -147,7 +147,7 @@ module _ (o : Op) (p : Palette) (x : IsExclusiveOr o) where
       ws = s.waiting ++ b ∷ []
 
       again_waits : takes o s.drawn ≡ true → ltb (length ws) (awaited o.first) ≡ true → (fed o p (over s left) (b ∷ bs)).memory ≡ s.memory
-      unfolding fed byte_fed ws
+      unfolding ws
       again_waits e f =
           let t : Stage = record { memory = s.memory; drawn = s.drawn; waiting = ws } in
           let one : byte_fed o p s b ≡ t = cond-true (takes o s.drawn) (come o p s ws) s e ∙ cond-true (ltb (length ws) (awaited o.first)) t (whole o p s (number ws)) f in
@@ -159,7 +159,7 @@ module _ (o : Op) (p : Palette) (x : IsExclusiveOr o) where
           ∙ rest t g
 
       again_whole : takes o s.drawn ≡ true → ltb (length ws) (awaited o.first) ≡ false → (fed o p (over s left) (b ∷ bs)).memory ≡ s.memory
-      unfolding fed byte_fed ws
+      unfolding ws
       again_whole e f =
           let v = number ws in
           let d = s.drawn in
@@ -182,7 +182,7 @@ module _ (o : Op) (p : Palette) (x : IsExclusiveOr o) where
 
     -- bytes fed again undo what they did
     fed_again : (s : Stage) (xs : List ℕ) → Good n s.memory → (fed o p (over s (fed o p s xs).memory) xs).memory ≡ s.memory
-    unfolding fed ws
+    unfolding ws
     fed_again s [] g = refl
     fed_again s (b ∷ bs) g = by (takes o s.drawn) refl (ltb (length (s.waiting ++ b ∷ [])) (awaited o.first)) refl (λ t h. fed_again t bs h)
       where
@@ -190,7 +190,7 @@ module _ (o : Op) (p : Palette) (x : IsExclusiveOr o) where
             → ((t : Stage) → Good n t.memory → (fed o p (over t (fed o p t bs).memory) bs).memory ≡ t.memory)
             → (fed o p (over s (fed o p s (b ∷ bs)).memory) (b ∷ bs)).memory ≡ s.memory
         by false e l f rest =
-            ap (λ u. u.memory) (fed_ended o p (over s (fed o p s (b ∷ bs)).memory) (b ∷ bs) e) ∙ ap (λ u. u.memory) (fed_ended o p s (b ∷ bs) e)
+            ap (λ u. u.memory) (fed_ended (takes_at o) (byte_come o p) (over s (fed o p s (b ∷ bs)).memory) (b ∷ bs) e) ∙ ap (λ u. u.memory) (fed_ended (takes_at o) (byte_come o p) s (b ∷ bs) e)
         by true e true f rest = again_waits s b bs g (fed o p s (b ∷ bs)).memory refl rest e f
         by true e false f rest = again_whole s b bs g (fed o p s (b ∷ bs)).memory refl rest e f
 

@@ -9,7 +9,7 @@ ghost use Rattle.complete.specs.Complete.{begun, way_in_parts};
 use crate::operation::{CompleteOperation, Drawn};
 use crate::part::Part;
 use colour::{Canvas, Palette, Readable};
-use engine::{Drawing, Progress, Waiting};
+use engine::{Drawing, Progress};
 use memory::Memory;
 use rules::PixelRule;
 
@@ -49,10 +49,7 @@ impl<R: PixelRule, D: Canvas> PartedDrawing<'_, '_, R, D> {
     fn draw_parts<M: Memory>(&self, memory: &mut M) -> Progress
         ensures { stage (M.bytes memory.new) result ≡ parted (op_of R.yields D.format D.narrowed self.now.drawing) self.now.palette (begun (M.bytes memory.old)) (map portion_of self.now.parts.now) }
     {
-        let mut progress = Progress {
-            drawn: 0,
-            waiting: Waiting::None,
-        };
+        let mut progress = Progress::default();
         for part in self.parts {
             self.step(memory, &mut progress, part);
         }

@@ -1,11 +1,11 @@
 -- A job's calls as the parts of a drawing.
 use Rattle.std.proofs.Common.{◌≡◌, ℕ, Bool, true, false, cond, ltb, List, sym, refl, ap, ◌∙◌, add-zero, arith}
 use Rattle.std.proofs.lemmas.Bool.{ltb-false}
+use Rattle.feeding.proofs.Feeding.{fed_ended}
 use Rattle.colour.specs.declared.Palette.{Palette}
 use Rattle.window.specs.Places.{pixels}
 use Rattle.engine.specs.Painted.{Op, painted}
-use Rattle.engine.specs.Fed.{Stage, fed}
-use Rattle.engine.proofs.Feeding.{fed_ended}
+use Rattle.engine.specs.Fed.{Stage, takes_at, byte_come, fed}
 use Rattle.complete.specs.Parts.{feed, run, by_memory, advanced, allowed, stepped}
 use Rattle.job.specs.Plans.{op_at}
 use Rattle.job.specs.Works.{Work, serves, awaits, stage_of, feed_after, run_after}
@@ -22,7 +22,7 @@ module _ (w : Work) (p : Palette) (m : List ℕ) (fits : serves w m ≡ true) wh
     where
       by : (b : Bool) → awaits w ≡ b → feed_after w p m xs ≡ fed (op_at w.plan) p (stage_of w m) xs
       by true e = rw (fits, e)
-      by false e = rw (fits, e) (sym (fed_ended (op_at w.plan) p (stage_of w m) xs e))
+      by false e = rw (fits, e) (sym (fed_ended (takes_at (op_at w.plan)) (byte_come (op_at w.plan) p) (stage_of w m) xs e))
 
   -- a run, a declined one too
   pub run_steps : (n : ℕ) → run_after w p m n ≡ stepped (op_at w.plan) p (stage_of w m) (run n)

@@ -1,6 +1,7 @@
 -- The laws of drawing.
-use Rattle.std.proofs.Common.{◌≡◌, ℕ, zero, suc, ◌+◌, ◌-◌, ◌<◌, ◌≤◌, Bool, true, false, cond, ltb, ◌≢◌, List, [], ◌∷◌, ◌++◌, length, get_or, Some, None, Option, refl, ap, ◌∙◌, subst, ⊎_elim, add_assoc, arith}
+use Rattle.std.proofs.Common.{◌≡◌, ℕ, zero, suc, ◌+◌, ◌-◌, ◌<◌, ◌≤◌, Bool, true, false, cond, ltb, ◌≢◌, List, [], ◌∷◌, ◌++◌, length, get_or, take, Some, None, Option, refl, ap, ◌∙◌, subst, ⊎_elim, add_assoc, arith}
 use Rattle.std.proofs.lemmas.Bool.{cases_lt}
+use Rattle.feeding.proofs.Feeding.{SoFar}
 use Rattle.colour.specs.declared.Colour.{Colour}
 use Rattle.colour.specs.declared.Palette.{Palette}
 use Rattle.window.specs.Apart.{Off, Apart}
@@ -10,10 +11,9 @@ use Rattle.window.proofs.Frames.{length_stored, get_or_stored, value_stored, val
 use Rattle.window.proofs.Places.{place_inside, places_apart}
 use Rattle.source.specs.Origins.{awaited}
 use Rattle.engine.specs.Painted.{Op, yielded, put_colour, plotted, painted}
-use Rattle.engine.specs.Fed.{Stage, takes, due, whole, number, come, byte_fed, fed, Feed}
-use Rattle.engine.specs.Laws.{pixel_at, pixel_value, value_after, PixelsHold, OnlyPixels, FeedsInParts}
+use Rattle.engine.specs.Fed.{Stage, takes_at, due, whole, number, come, byte_come, byte_fed, fed, Feed}
+use Rattle.engine.specs.Laws.{pixel_at, pixel_value, value_after, PixelsHold, OnlyPixels}
 use Rattle.engine.proofs.Orders.{painted_kept, cut}
-use Rattle.engine.proofs.Feeding.{fed_append, taken_append}
 
 -- what a colour put at pixel k does
 module _ (o : Op) (k : ℕ) (m : List ℕ) where
@@ -144,22 +144,22 @@ module _ (o : Op) (p : Palette) where
       elim (ltb (length bs) (awaited o.first)) as P [ true ↦ grew_none s (record { memory = s.memory; drawn = s.drawn; waiting = bs }) refl refl | false ↦ whole_grew s (number bs) ]
 
   byte_grew : (s : Stage) (b : ℕ) → Grew o s (byte_fed o p s b)
-  unfolding byte_fed
   byte_grew s b =
-      let P : Bool → Type 0 = λ t. Grew o s (cond t (come o p s (s.waiting ++ b ∷ [])) s) in
-      elim (takes o s.drawn) as P [ true ↦ come_grew s (s.waiting ++ b ∷ []) | false ↦ grew_none s s refl refl ]
+      let P : Bool → Type 0 = λ t. Grew o s (cond t (byte_come o p s b) s) in
+      elim (takes_at o s) as P [ true ↦ come_grew s (s.waiting ++ b ∷ []) | false ↦ grew_none s s refl refl ]
 
   pub fed_grew : (s : Stage) (xs : List ℕ) → Grew o s (fed o p s xs)
-  unfolding fed
   fed_grew s [] = grew_none s s refl refl
   fed_grew s (x ∷ xs) = grew_more s (byte_fed o p s x) (fed o p (byte_fed o p s x) xs) (byte_grew s x) (fed_grew (byte_fed o p s x) xs)
 
-  -- bytes that are fed change the pixels that they draw, and nothing else
-  pub feed_only : (s t : Stage) (xs : List ℕ) (taken drawn : ℕ) → Feed o p s xs t taken drawn → OnlyPixels o s.drawn drawn s.memory t.memory
-  feed_only s t xs taken drawn f =
-      let g : Grew o s t = rw f.after (fed_grew s xs) in
-      let e : g.more ≡ drawn = omega (arith, g.drawn_is, f.drawn_is) in
-      subst (λ d. OnlyPixels o s.drawn d s.memory t.memory) e g.only
+  module _ {s t : Stage} {xs : List ℕ} where
+    -- bytes that are fed change the pixels that they draw, and nothing else
+    pub feed_only : {taken drawn : ℕ} → Feed o p s xs t taken drawn → OnlyPixels o s.drawn drawn s.memory t.memory
+    feed_only {taken} {drawn} f =
+        let g : Grew o s t = rw f.after (fed_grew s xs) in
+        let e : g.more ≡ drawn = omega (arith, g.drawn_is, f.drawn_is) in
+        subst (λ d. OnlyPixels o s.drawn d s.memory t.memory) e g.only
 
-  pub feeds_in_parts : FeedsInParts o p
-  feeds_in_parts s xs ys = record { after = fed_append o p s xs ys; taken = taken_append o p s xs ys }
+    -- and no pixel is taken back
+    pub so_far_grew : {i : ℕ} → SoFar (takes_at o) (byte_come o p) s xs i t → s.drawn ≤ t.drawn
+    so_far_grew {i} f = let g : Grew o s t = rw f.after (fed_grew s (take i xs)) in omega (arith, g.drawn_is)

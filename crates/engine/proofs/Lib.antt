@@ -1,4 +1,3 @@
 pub mod Painting
-pub mod Feeding
 pub mod Orders
 pub mod Laws

@@ -33,15 +33,6 @@ module _ (Good : List ℕ → Type 0) (draw : ℕ → List ℕ → List ℕ) (ke
       ∙ inv n (omega arith) (painted draw first n p) (painted_kept first n p gp)
       ∙ undone first n (λ j k h i. comm j k (omega arith) (omega arith)) (λ k h. inv k (omega arith)) m g
 
--- two drawings whose pixels commute may change places
-pub swapped : (Good : List ℕ → Type 0) (d e : ℕ → List ℕ → List ℕ)
-    → ((k : ℕ) (m : List ℕ) → Good m → Good (d k m)) → ((k : ℕ) (m : List ℕ) → Good m → Good (e k m)) → (i n j o : ℕ)
-    → ((x y : ℕ) → x < n → y < o → (m : List ℕ) → Good m → d (i + x) (e (j + y) m) ≡ e (j + y) (d (i + x) m))
-    → (m : List ℕ) → Good m → painted d i n (painted e j o m) ≡ painted e j o (painted d i n m)
-swapped Good d e kd ke i n j o comm m g =
-    past Good e ke (painted d i n) j o
-    (λ y hy m g. sym (past Good d kd (e (j + y)) i n (λ x hx m g. sym (comm x y hx hy m g)) m g)) m g
-
 -- a drawing may be cut
 pub cut : (d : ℕ → List ℕ → List ℕ) (first n k : ℕ) (m : List ℕ) → painted d first (n + k) m ≡ painted d (first + n) k (painted d first n m)
 unfolding painted

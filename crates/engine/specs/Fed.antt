@@ -1,5 +1,6 @@
 -- What the bytes that a host sends do to a drawing.
 use Rattle.std.specs.Prelude.{◌≡◌, ℕ, ◌+◌, ◌-◌, ◌*◌, min, Bool, cond, ◌&&◌, List, [], ◌∷◌, ◌++◌, length, nat_lt}
+use Rattle.feeding.specs.Feeding.{one_fed, all_fed, count_taken}
 use Rattle.colour.specs.declared.Palette.{Palette}
 use Rattle.window.specs.Places.{pixels}
 use Rattle.source.specs.Origins.{awaited, served}
@@ -48,19 +49,23 @@ come o p s bs =
     (record { memory = s.memory; drawn = s.drawn; waiting = bs })
     (whole o p s (number bs))
 
--- one byte more
-unfoldable pub byte_fed : Op → Palette → Stage → ℕ → Stage
-byte_fed o p s b = cond (takes o s.drawn) (come o p s (s.waiting ++ b ∷ [])) s
+-- one byte more: where it is taken, it comes behind those that wait
+abbrev pub takes_at : Op → Stage → Bool
+takes_at o s = takes o s.drawn
+
+abbrev pub byte_come : Op → Palette → Stage → ℕ → Stage
+byte_come o p s b = come o p s (s.waiting ++ b ∷ [])
+
+abbrev pub byte_fed : Op → Palette → Stage → ℕ → Stage
+byte_fed o p = one_fed (takes_at o) (byte_come o p)
 
 -- bytes, one after another
-unfoldable pub fed : Op → Palette → Stage → List ℕ → Stage
-fed o p s [] = s
-fed o p s (b ∷ bs) = fed o p (byte_fed o p s b) bs
+abbrev pub fed : Op → Palette → Stage → List ℕ → Stage
+fed o p = all_fed (takes_at o) (byte_come o p)
 
 -- how many of them are taken
-unfoldable pub bytes_taken : Op → Palette → Stage → List ℕ → ℕ
-bytes_taken o p s [] = 0
-bytes_taken o p s (b ∷ bs) = cond (takes o s.drawn) (1 + bytes_taken o p (byte_fed o p s b) bs) 0
+abbrev pub bytes_taken : Op → Palette → Stage → List ℕ → ℕ
+bytes_taken o p = count_taken (takes_at o) (byte_come o p)
 
 -- feeding xs leads from s to t, with so many bytes taken and pixels drawn
 pub record Feed (o : Op) (p : Palette) (s : Stage) (xs : List ℕ) (t : Stage) (taken drawn : ℕ) : Type 0 where

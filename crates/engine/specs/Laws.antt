@@ -1,12 +1,13 @@
 -- Laws of drawing.
-use Rattle.std.specs.Prelude.{◌≡◌, ℕ, ◌+◌, ◌*◌, ◌%◌, ◌^◌, ◌<◌, ◌≤◌, List, ◌++◌, length, Some, None, Option, slice_index}
+use Rattle.std.specs.Prelude.{◌≡◌, ℕ, ◌+◌, ◌*◌, ◌%◌, ◌^◌, ◌<◌, ◌≤◌, List, length, Some, None, Option, slice_index}
+use Rattle.feeding.specs.Feeding.{InParts}
 use Rattle.colour.specs.declared.Colour.{Colour}
 use Rattle.colour.specs.declared.Palette.{Palette}
 use Rattle.window.specs.Apart.{Off}
 use Rattle.window.specs.Places.{pixels, place, reach}
 use Rattle.window.specs.Values.{value_at}
 use Rattle.engine.specs.Painted.{Op, yielded, plotted, painted}
-use Rattle.engine.specs.Fed.{Stage, fed, bytes_taken}
+use Rattle.engine.specs.Fed.{takes_at, byte_come}
 
 -- where pixel k of an operation's window begins
 abbrev pub pixel_at : Op → ℕ → ℕ
@@ -42,9 +43,5 @@ pub record OnlyPixels (o : Op) (first count : ℕ) (m n : List ℕ) : Type 0 whe
   pub rest : (x : ℕ) → ((j : ℕ) → j < count → Off (pixel_at o (first + j)) o.format.width x) → slice_index n x ≡ slice_index m x
 
 -- bytes may be fed in parts: xs and then ys have the effect of both together, and as many of them are taken
-pub record FeedsJoin (o : Op) (p : Palette) (s : Stage) (xs ys : List ℕ) : Type 0 where
-  pub after : fed o p s (xs ++ ys) ≡ fed o p (fed o p s xs) ys
-  pub taken : bytes_taken o p s (xs ++ ys) ≡ bytes_taken o p s xs + bytes_taken o p (fed o p s xs) ys
-
 abbrev pub FeedsInParts : Op → Palette → Type 0
-FeedsInParts o p = (s : Stage) (xs ys : List ℕ) → FeedsJoin o p s xs ys
+FeedsInParts o p = InParts (takes_at o) (byte_come o p)

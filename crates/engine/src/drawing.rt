@@ -14,7 +14,7 @@ pub struct Drawing<R, D> {
 }
 
 // The pixels drawn, and the bytes that wait for the rest of their pixel or unit.
-#[derive(Clone, Copy)]
+#[derive(Clone, Copy, Default)]
 pub struct Progress {
     pub drawn: u32,
     pub waiting: Waiting,

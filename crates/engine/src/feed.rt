@@ -65,10 +65,10 @@ impl<R: PixelRule, D: Canvas> Drawing<R, D> {
             }
         }
     }
-}
 
-impl<R: PixelRule, D: Canvas> Drawing<R, D> {
-    // Takes bytes until they end or the drawing does. Answers the bytes taken and the pixels drawn.
+    // Takes bytes until they end or the drawing does. Answers the bytes taken and the pixels drawn. `PaletteLoad::feed` has the
+    // same loop: one function of two closures was proved for both, but it took a hundred lines of contract and proof and spared
+    // forty, and it asked of its caller that they may be called.
     pub fn feed<M: Memory>(
         &self,
         palette: &Palette,

@@ -9,7 +9,7 @@ ghost use Rattle.job.specs.Works.{LiesInside, clearing, awaits, runs, left, at_s
 use crate::job::{Begun, Cleared, Closed, Declined, Draft};
 use crate::settings::Settings;
 use colour::Palette;
-use engine::{Progress, Waiting};
+use engine::Progress;
 use memory::Memory;
 use refusal::Refusal;
 
@@ -45,10 +45,7 @@ impl Cleared {
         Begun {
             drawing,
             size,
-            progress: Progress {
-                drawn: 0,
-                waiting: Waiting::None,
-            },
+            progress: Progress::default(),
         }
     }
 }

@@ -1,7 +1,7 @@
 // Pictures worked by hand. Bytes are written as they lie in memory, low byte first.
 use blue_first::Bgr565;
 use colour::{Colour, Palette};
-use engine::{Drawing, Progress, Waiting};
+use engine::{Drawing, Progress};
 use formats::{Rgb332, Rgb565};
 use memory::{ByteBoard, WordBoard};
 use refusal::Refusal;
@@ -116,10 +116,7 @@ fn copy_from_host(rt: HostRuntime) -> Result<(), Fail> {
         second: Source::Unused,
         target: pair(0)?,
     };
-    let mut progress = Progress {
-        drawn: 0,
-        waiting: Waiting::None,
-    };
+    let mut progress = Progress::default();
     assert_eq!(rt;
         drawing.feed(&palette, &mut board, &mut progress, &[0x1F]),
         (1, 0)

@@ -1,5 +1,6 @@
 -- What the bytes of a palette load do.
-use Rattle.std.specs.Prelude.{◌≡◌, ℕ, ◌+◌, Bool, cond, List, [], ◌∷◌, ◌++◌, Some, None, Option, nat_lt, slice_set}
+use Rattle.std.specs.Prelude.{ℕ, ◌+◌, Bool, List, [], ◌∷◌, Some, None, Option, nat_lt, slice_set}
+use Rattle.feeding.specs.Feeding.{all_fed, count_taken, InParts}
 use Rattle.colour.specs.declared.Palette.{Palette}
 use Rattle.colour.specs.Entries.{entry_of_bytes}
 use Rattle.palette_load.specs.declared.load.PaletteLoad.{PaletteLoad}
@@ -33,24 +34,18 @@ paired s (low ∷ _) b = record {
 abbrev pub come : Loading → ℕ → Loading
 come s b = paired s s.waiting b
 
--- one byte more; a load that has ended takes none
-unfoldable pub byte_loaded : Loading → ℕ → Loading
-byte_loaded s b = cond (unfinished s.entries) (come s b) s
+-- a load takes bytes while entries are left
+abbrev pub takes : Loading → Bool
+takes s = unfinished s.entries
 
 -- bytes, one after another
-unfoldable pub loaded_by : Loading → List ℕ → Loading
-loaded_by s [] = s
-loaded_by s (b ∷ bs) = loaded_by (byte_loaded s b) bs
+abbrev pub loaded_by : Loading → List ℕ → Loading
+loaded_by = all_fed takes come
 
 -- how many of them are taken
-unfoldable pub bytes_taken : Loading → List ℕ → ℕ
-bytes_taken s [] = 0
-bytes_taken s (b ∷ bs) = cond (unfinished s.entries) (1 + bytes_taken (byte_loaded s b) bs) 0
+abbrev pub bytes_taken : Loading → List ℕ → ℕ
+bytes_taken = count_taken takes come
 
 -- bytes may come in parts: xs and then ys have the effect of both together, and as many of them are taken
-pub record LoadsJoin (s : Loading) (xs ys : List ℕ) : Type 0 where
-  pub after : loaded_by s (xs ++ ys) ≡ loaded_by (loaded_by s xs) ys
-  pub taken : bytes_taken s (xs ++ ys) ≡ bytes_taken s xs + bytes_taken (loaded_by s xs) ys
-
 abbrev pub LoadInParts : Type 0
-LoadInParts = (s : Loading) (xs ys : List ℕ) → LoadsJoin s xs ys
+LoadInParts = InParts takes come

@@ -39,7 +39,8 @@ impl PaletteLoad {
         }
     }
 
-    // Takes bytes until they end or the load does, and answers how many it took.
+    // Takes bytes until they end or the load does, and answers how many it took. The engine's `Drawing::feed` says why the loop
+    // stands in both.
     pub fn feed(&mut self, palette: &mut Palette, sent: &[u8]) -> usize
         ensures after { loading palette.new self.new ≡ loaded_by (loading palette.old self.old) sent.now }
         ensures taken { result ≡ bytes_taken (loading palette.old self.old) sent.now }
