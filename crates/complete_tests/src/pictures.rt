@@ -1,6 +1,6 @@
 // Pictures worked by hand. Bytes are written as they lie in memory, low byte first.
 use blue_first::Bgr565;
-use colour::{Colour, Palette};
+use colour::Palette;
 use complete::{
     Drawn, ExclusiveOr, Orders, Part, PartedDrawing, exclusive_or_twice, in_either_order, twice,
 };
@@ -9,33 +9,17 @@ use formats::{Rgb332, Rgb565};
 use memory::{ByteBoard, WordBoard};
 use refusal::Refusal;
 use rules::{Fill, Raster};
+use samples::{pair, rgb};
 use source::Source;
 use std::test::Fail;
-use window::{Area, PixelSize, SIDE_LIMIT, Window};
-
-// Two pixels in a row.
-fn pair(start: u32) -> Result<Window, Refusal> {
-    let area = Area {
-        start,
-        image: 2,
-        left: 0,
-        top: 0,
-        width: 2,
-        height: 1,
-    };
-    Window::new(SIDE_LIMIT, area)
-}
+use window::PixelSize;
 
 // Red on the two bytes from an address on.
 fn red(start: u32) -> Result<Drawing<Fill, Rgb332>, Refusal> {
     let target = pair(start)?;
     Ok(Drawing {
         rule: Fill {
-            foreground: Colour {
-                red: 255,
-                green: 0,
-                blue: 0,
-            },
+            foreground: rgb(255, 0, 0),
         },
         canvas: Rgb332,
         first: Source::Unused,

@@ -2,9 +2,9 @@
 use colour::Palette;
 use job::{Settings, Surface};
 use layers::{Stretch, WriteQueue};
-use memory::{ByteBoard, Memory, WordBoard};
+use memory::{ByteBoard, WordBoard};
 use refusal::Refusal;
-use samples::{begin, rgb, surface};
+use samples::{draw, feed, rgb, surface};
 use std::test::Fail;
 
 // Images 4 wide of 3:3:2, with the raster rule that copies the first source.
@@ -15,26 +15,6 @@ fn settings(operation: u8, width: u16, height: u16) -> Settings {
         foreground: rgb(1, 2, 3),
         ..samples::settings(operation, 12, 4)
     }
-}
-
-// Runs a job to its end.
-fn draw<M: Memory>(memory: &mut M, settings: Settings) -> Result<u32, Refusal> {
-    begin(memory, settings)?.run(memory, &Palette::new(), 1000)
-}
-
-// Feeds a job in two bursts.
-fn feed<M: Memory>(
-    memory: &mut M,
-    settings: Settings,
-    first: &[u8],
-    second: &[u8],
-) -> Result<[(usize, u32); 2], Refusal> {
-    let palette = Palette::new();
-    let mut begun = begin(memory, settings)?;
-    Ok([
-        begun.feed(memory, &palette, first)?,
-        begun.feed(memory, &palette, second)?,
-    ])
 }
 
 // The bytes 1 2 3 4 lie at 2 of the block, and a stretch of four has them. Copied one to the right, each is drawn before the
@@ -49,6 +29,7 @@ fn copy_through_stretch_and_queue(rt: HostRuntime) -> Result<(), Fail> {
     };
     let answer = draw(
         &mut pile,
+        &Palette::new(),
         Settings {
             target,
             ..settings(2, 3, 1)
@@ -69,6 +50,7 @@ fn fill_through_queue_and_stretch(rt: HostRuntime) -> Result<(), Fail> {
     let target = surface(2, 0, 3);
     let answer = draw(
         &mut pile,
+        &Palette::new(),
         Settings {
             target,
             ..settings(12, 3, 3)
@@ -95,14 +77,15 @@ fn host_through_queue_and_stretch(rt: HostRuntime) -> Result<(), Fail> {
     let mut block = [0x1111u16, 0x2222];
     let mut pile = WriteQueue::new(Stretch::new(WordBoard::new(&mut block), 1, 2));
     let first = surface(1, 0, 4);
+    let bursts: [&[u8]; 2] = [&[0x00, 0xF8, 0x1F], &[0x00]];
     let answers = feed(
         &mut pile,
+        &Palette::new(),
         Settings {
             first,
             ..settings(0, 2, 1)
         },
-        &[0x00, 0xF8, 0x1F],
-        &[0x00],
+        &bursts,
     );
     let _ = pile.into_below();
     assert_eq!(rt; answers?, [(3, 1), (1, 1)]);
@@ -116,8 +99,8 @@ fn host_through_queue_and_stretch(rt: HostRuntime) -> Result<(), Fail> {
 fn past_a_stretch(rt: HostRuntime) -> Result<(), Fail> {
     let mut block = [9u8; 8];
     let mut pile = Stretch::new(WriteQueue::new(ByteBoard::new(&mut block)), 2, 2);
-    let declined = draw(&mut pile, settings(12, 3, 1));
-    let drawn = draw(&mut pile, settings(12, 2, 1));
+    let declined = draw(&mut pile, &Palette::new(), settings(12, 3, 1));
+    let drawn = draw(&mut pile, &Palette::new(), settings(12, 2, 1));
     let _ = pile.into_below().into_below();
     assert_eq!(rt; declined, Err(Refusal::PastMemory));
     assert_eq!(rt; drawn?, 2);

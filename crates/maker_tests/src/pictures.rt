@@ -1,27 +1,15 @@
 // Pictures worked by hand. Bytes are written as they lie in memory, low byte first.
 use blue_first::Bgr565;
-use colour::{Colour, Palette};
+use colour::Palette;
 use engine::{Drawing, Progress};
 use formats::{Rgb332, Rgb565};
 use memory::{ByteBoard, WordBoard};
 use refusal::Refusal;
 use rules::{Fill, Key, Raster};
+use samples::{pair, rgb};
 use source::Source;
 use std::test::Fail;
-use window::{Area, PixelSize, SIDE_LIMIT, Window};
-
-// Two pixels in a row.
-fn pair(start: u32) -> Result<Window, Refusal> {
-    let area = Area {
-        start,
-        image: 2,
-        left: 0,
-        top: 0,
-        width: 2,
-        height: 1,
-    };
-    Window::new(SIDE_LIMIT, area)
-}
+use window::{PixelSize, Window};
 
 fn image(window: Window) -> Source {
     Source::Image {
@@ -35,13 +23,10 @@ fn image(window: Window) -> Source {
 fn fill(rt: HostRuntime) -> Result<(), Fail> {
     let mut block = [7u8; 6];
     let mut board = ByteBoard::new(&mut block);
-    let foreground = Colour {
-        red: 255,
-        green: 128,
-        blue: 64,
-    };
     let drawing = Drawing {
-        rule: Fill { foreground },
+        rule: Fill {
+            foreground: rgb(255, 128, 64),
+        },
         canvas: Bgr565,
         first: Source::Unused,
         second: Source::Unused,
@@ -139,14 +124,9 @@ fn copy_from_host(rt: HostRuntime) -> Result<(), Fail> {
 fn key(rt: HostRuntime) -> Result<(), Fail> {
     let mut block = [0x01u8, 0x08, 0x00, 0x08, 7, 7];
     let mut board = ByteBoard::new(&mut block);
-    let background = Colour {
-        red: 15,
-        green: 3,
-        blue: 8,
-    };
     let drawing = Drawing {
         rule: Key {
-            background,
+            background: rgb(15, 3, 8),
             first: Bgr565,
         },
         canvas: Rgb332,

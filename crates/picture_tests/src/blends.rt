@@ -1,9 +1,9 @@
 // Operations 10 and 11.
-use crate::jobs::{Bursts, check_bytes, check_drawn, check_fed, draw, feed, settings};
+use crate::jobs::{check_bytes, check_drawn, check_fed, settings};
 use colour::Palette;
 use job::Settings;
 use memory::{ByteBoard, WordBoard};
-use samples::surface;
+use samples::{draw, feed, surface};
 use std::test::Fail;
 
 // Level 16 on (200, 0, 100) and (101, 50, 7): 301 × 16, 50 × 16 and 107 × 16, each div 32: 150, 25 and 53.
@@ -91,13 +91,9 @@ fn overlay_of_four_fields(rt: HostRuntime) -> Result<(), Fail> {
         width: 3,
         ..settings()
     };
-    let bursts = Bursts {
-        first: &[0x00],
-        second: &[0xF8, 0xE0, 0x07, 0xFF],
-        third: &[0xFF],
-    };
+    let bursts: [&[u8]; 3] = [&[0x00], &[0xF8, 0xE0, 0x07, 0xFF], &[0xFF]];
     assert_eq!(rt;
-        feed(&mut board, overlay, bursts)?,
+        feed(&mut board, &Palette::new(), overlay, &bursts)?,
         [(1, 0), (4, 2), (1, 1)]
     );
     assert_eq!(rt; block, [0x8ABC, 0xF123, 0x0ABC, 0xD2EC, 0x07E0, 0xADD9]);
@@ -121,11 +117,7 @@ fn level_from_host(rt: HostRuntime) -> Result<(), Fail> {
         &rt,
         &mut [0xE0, 0],
         quarter,
-        Bursts {
-            first: &[0xFF, 0xFF],
-            second: &[],
-            third: &[0xFF],
-        },
+        &[&[0xFF, 0xFF], &[], &[0xFF]],
         [(2, 0), (0, 0), (1, 1)],
         &[0xE0, 0xE4],
     )

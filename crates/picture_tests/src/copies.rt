@@ -1,9 +1,9 @@
 // Operations 0 and 2.
-use crate::jobs::{Bursts, check_drawn, check_fed, feed, settings};
+use crate::jobs::{check_drawn, check_fed, settings};
 use colour::Palette;
 use job::{Settings, Surface};
 use memory::{ByteBoard, WordBoard};
-use samples::{begin, surface};
+use samples::{begin, feed, surface};
 use std::test::Fail;
 
 fn one_to_the_right() -> Settings {
@@ -102,12 +102,11 @@ fn host_pixels_cut(rt: HostRuntime) -> Result<(), Fail> {
         width: 2,
         ..settings()
     };
-    let bursts = Bursts {
-        first: &[0x34],
-        second: &[0x12, 0xFF],
-        third: &[0x00, 0x77],
-    };
-    assert_eq!(rt; feed(&mut board, or, bursts)?, [(1, 0), (2, 1), (1, 1)]);
+    let bursts: [&[u8]; 3] = [&[0x34], &[0x12, 0xFF], &[0x00, 0x77]];
+    assert_eq!(rt;
+        feed(&mut board, &Palette::new(), or, &bursts)?,
+        [(1, 0), (2, 1), (1, 1)]
+    );
     assert_eq!(rt; block, [0x0841, 0xF800, 0x1A75, 0xF8FF]);
     Ok(())
 }
@@ -128,11 +127,7 @@ fn host_pixel_of_three_bytes(rt: HostRuntime) -> Result<(), Fail> {
         &rt,
         &mut [0x7F, 0xF0, 0xC0, 0],
         and,
-        Bursts {
-            first: &[0x40],
-            second: &[0x80],
-            third: &[0xFF],
-        },
+        &[&[0x40], &[0x80], &[0xFF]],
         [(1, 0), (1, 0), (1, 1)],
         &[0x7F, 0xF0, 0xC0, 0xD1],
     )

@@ -1,5 +1,5 @@
 // Operations 8, 9, 14 and 15.
-use crate::jobs::{Bursts, check_drawn, check_fed, settings};
+use crate::jobs::{check_drawn, check_fed, settings};
 use job::Settings;
 use samples::{rgb, surface};
 use std::test::Fail;
@@ -20,11 +20,7 @@ fn bits_from_host(rt: HostRuntime) -> Result<(), Fail> {
         &rt,
         &mut [0x55; 9],
         expand,
-        Bursts {
-            first: &[0xEC],
-            second: &[],
-            third: &[0x07, 0x99],
-        },
+        &[&[0xEC], &[], &[0x07, 0x99]],
         [(1, 4), (0, 0), (1, 4)],
         &[0xE0, 0x03, 0xE0, 0xE0, 0x03, 0x03, 0x03, 0xE0, 0x55],
     )
@@ -48,11 +44,7 @@ fn units_of_sixteen_from_host(rt: HostRuntime) -> Result<(), Fail> {
         &rt,
         &mut [0x55; 10],
         expand,
-        Bursts {
-            first: &[0x01],
-            second: &[0x00, 0x00],
-            third: &[0x40],
-        },
+        &[&[0x01], &[0x00, 0x00], &[0x40]],
         [(1, 0), (2, 1), (1, 2)],
         &[3, 2, 1, 6, 5, 4, 3, 2, 1, 0x55],
     )
@@ -76,11 +68,7 @@ fn bits_from_host_over(rt: HostRuntime) -> Result<(), Fail> {
         &rt,
         &mut [0x11, 0x11, 0x22, 0x22, 0x33, 0x33, 0x44, 0x44],
         over,
-        Bursts {
-            first: &[0x01, 0x7F],
-            second: &[0xFE],
-            third: &[0x80],
-        },
+        &[&[0x01, 0x7F], &[0xFE], &[0x80]],
         [(2, 2), (1, 1), (1, 1)],
         &[0x08, 0xFC, 0x22, 0x22, 0x33, 0x33, 0x08, 0xFC],
     )

@@ -2,8 +2,7 @@
 use colour::Palette;
 use job::Settings;
 use memory::{ByteBoard, Memory};
-use refusal::Refusal;
-use samples::begin;
+use samples::{draw, feed};
 use std::process::Abort;
 use std::test::Fail;
 
@@ -13,40 +12,6 @@ pub(crate) fn settings() -> Settings {
         width: 4,
         ..samples::settings(2, 12, 4)
     }
-}
-
-// Runs a job to its end, and answers how many pixels it drew.
-pub(crate) fn draw<M: Memory>(
-    memory: &mut M,
-    palette: &Palette,
-    settings: Settings,
-) -> Result<u32, Refusal> {
-    let mut begun = begin(memory, settings)?;
-    begun.run(memory, palette, 1000)?;
-    Ok(begun.close().drawn())
-}
-
-// The three bursts that a job is fed.
-#[derive(Clone, Copy)]
-pub(crate) struct Bursts<'a> {
-    pub first: &'a [u8],
-    pub second: &'a [u8],
-    pub third: &'a [u8],
-}
-
-// Feeds a job, and answers what each burst came to: the bytes taken and the pixels drawn.
-pub(crate) fn feed<M: Memory>(
-    memory: &mut M,
-    settings: Settings,
-    bursts: Bursts<'_>,
-) -> Result<[(usize, u32); 3], Refusal> {
-    let palette = Palette::new();
-    let mut begun = begin(memory, settings)?;
-    Ok([
-        begun.feed(memory, &palette, bursts.first)?,
-        begun.feed(memory, &palette, bursts.second)?,
-        begun.feed(memory, &palette, bursts.third)?,
-    ])
 }
 
 // Whether memory holds these bytes from an address on.
@@ -72,8 +37,8 @@ pub(crate) fn check_drawn(
 ) -> Result<(), Fail> {
     let mut board = ByteBoard::new(block);
     assert_eq!(rt; draw(&mut board, &Palette::new(), settings)?, drawn);
-    assert_eq!(rt; board.size() as usize, expected.len());
-    check_bytes(rt, &board, 0, expected)
+    assert_eq!(rt; *block, *expected);
+    Ok(())
 }
 
 // The same for a job that the host serves: what each burst comes to, and what the block then holds.
@@ -81,12 +46,15 @@ pub(crate) fn check_fed(
     rt: &impl Abort,
     block: &mut [u8],
     settings: Settings,
-    bursts: Bursts<'_>,
+    bursts: &[&[u8]; 3],
     answers: [(usize, u32); 3],
     expected: &[u8],
 ) -> Result<(), Fail> {
     let mut board = ByteBoard::new(block);
-    assert_eq!(rt; feed(&mut board, settings, bursts)?, answers);
-    assert_eq!(rt; board.size() as usize, expected.len());
-    check_bytes(rt, &board, 0, expected)
+    assert_eq!(rt;
+        feed(&mut board, &Palette::new(), settings, bursts)?,
+        answers
+    );
+    assert_eq!(rt; *block, *expected);
+    Ok(())
 }

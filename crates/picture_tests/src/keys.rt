@@ -1,5 +1,5 @@
 // Operations 4 and 5.
-use crate::jobs::{Bursts, check_drawn, check_fed, settings};
+use crate::jobs::{check_drawn, check_fed, settings};
 use job::Settings;
 use samples::{rgb, surface};
 use std::test::Fail;
@@ -21,11 +21,7 @@ fn key_from_host(rt: HostRuntime) -> Result<(), Fail> {
         &rt,
         &mut [0x11, 0x22, 0x33, 0x44],
         key,
-        Bursts {
-            first: &[0x08],
-            second: &[0xFC, 0x1F, 0xF8, 0x09],
-            third: &[0xFC],
-        },
+        &[&[0x08], &[0xFC, 0x1F, 0xF8, 0x09], &[0xFC]],
         [(1, 0), (4, 2), (1, 1)],
         &[0x11, 0xE3, 0xF1, 0x44],
     )

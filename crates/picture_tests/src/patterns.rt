@@ -1,9 +1,9 @@
 // Operations 6 and 7.
-use crate::jobs::{check_bytes, draw, settings};
+use crate::jobs::{check_bytes, settings};
 use colour::Palette;
 use job::Settings;
 use memory::{ByteBoard, Memory};
-use samples::{rgb, surface};
+use samples::{draw, rgb, surface};
 use std::test::Fail;
 
 // Puts 0, 1, 2 and so on from address 0 on.

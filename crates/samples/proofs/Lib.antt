@@ -1,1 +1,1 @@
-pub mod Declining
+pub mod Feeding
