@@ -51,57 +51,26 @@ fn corners(rt: HostRuntime) {
 // 7: the window of each source that is used counts, and of no other.
 #[test]
 fn windows_of_sources(rt: HostRuntime) {
-    for (operation, number) in [
-        (2u8, 7u8),
-        (5, 7),
-        (6, 7),
-        (7, 7),
-        (10, 7),
-        (0, 0),
-        (4, 0),
-        (8, 0),
-        (9, 0),
-        (11, 0),
-        (12, 0),
-        (14, 0),
-        (15, 0),
+    for (operation, of_first, of_second) in [
+        (0u8, 0u8, 7u8),
+        (2, 7, 7),
+        (4, 0, 0),
+        (5, 7, 0),
+        (6, 7, 7),
+        (7, 7, 0),
+        (8, 0, 0),
+        (9, 0, 0),
+        (10, 7, 7),
+        (11, 0, 7),
+        (12, 0, 0),
+        (14, 0, 0),
+        (15, 0, 0),
     ] {
+        let settings = settings(operation, 0, 8);
         let first = surface(0, 0, 0);
-        assert_eq!(rt;
-            ground(Settings {
-                first,
-                ..settings(operation, 0, 8)
-            }),
-            number
-        );
-    }
-}
-
-#[test]
-fn windows_of_second_sources(rt: HostRuntime) {
-    for (operation, number) in [
-        (0u8, 7u8),
-        (2, 7),
-        (6, 7),
-        (10, 7),
-        (11, 7),
-        (4, 0),
-        (5, 0),
-        (7, 0),
-        (8, 0),
-        (9, 0),
-        (12, 0),
-        (14, 0),
-        (15, 0),
-    ] {
-        let second = surface(0, 0, 0);
-        assert_eq!(rt;
-            ground(Settings {
-                second,
-                ..settings(operation, 0, 8)
-            }),
-            number
-        );
+        let second = first;
+        assert_eq!(rt; ground(Settings { first, ..settings }), of_first);
+        assert_eq!(rt; ground(Settings { second, ..settings }), of_second);
     }
 }
 

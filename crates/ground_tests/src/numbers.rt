@@ -57,28 +57,24 @@ fn ground_of_kind(operation: u8, kind: u8) -> u8 {
     })
 }
 
-// 4: the second source of a raster rule has kind 0, 1 or 2.
+// 4: the second source of a raster rule has kind 0, 1 or 2, and that of a blend may have kind 4 or 5 too.
 #[test]
-fn kinds_of_rasters(rt: HostRuntime) {
-    for operation in [0u8, 2, 6] {
-        for kind in [0u8, 1, 2] {
-            assert_eq!(rt; ground_of_kind(operation, kind), 0);
+fn kinds(rt: HostRuntime) {
+    for (kind, of_raster, of_blend) in [
+        (0u8, 0u8, 0u8),
+        (1, 0, 0),
+        (2, 0, 0),
+        (3, 4, 4),
+        (4, 4, 0),
+        (5, 4, 0),
+        (6, 4, 4),
+        (7, 4, 4),
+    ] {
+        for operation in [0u8, 2, 6] {
+            assert_eq!(rt; ground_of_kind(operation, kind), of_raster);
         }
-        for kind in [3u8, 4, 5, 6, 7] {
-            assert_eq!(rt; ground_of_kind(operation, kind), 4);
-        }
-    }
-}
-
-// 4: that of a blend may have kind 4 or 5 too.
-#[test]
-fn kinds_of_blends(rt: HostRuntime) {
-    for operation in [10u8, 11] {
-        for kind in [0u8, 1, 2, 4, 5] {
-            assert_eq!(rt; ground_of_kind(operation, kind), 0);
-        }
-        for kind in [3u8, 6, 7] {
-            assert_eq!(rt; ground_of_kind(operation, kind), 4);
+        for operation in [10u8, 11] {
+            assert_eq!(rt; ground_of_kind(operation, kind), of_blend);
         }
     }
 }

@@ -1,12 +1,13 @@
 // The ground against settings, by its number, as the sheets have it.
-use job::{Draft, Settings};
+use job::Settings;
 use memory::ByteBoard;
+use samples::begin;
 
 // The number that settings are declined with over a block of bytes, or 0 where they are accepted.
 pub(crate) fn ground_over(block: &mut [u8], settings: Settings) -> u8 {
-    match Draft::new(settings).clear(&ByteBoard::new(block)) {
+    match begin(&ByteBoard::new(block), settings) {
         Ok(_) => 0,
-        Err(declined) => declined.refusal.number(),
+        Err(refusal) => refusal.number(),
     }
 }
 
