@@ -41,17 +41,17 @@ fn put_all<M: Memory>(memory: &mut M, start: u16, end: u16, value: u8) {
 fn oldest_goes_below(rt: HostRuntime) {
     let mut block = [7u8; 20];
     let mut queue = WriteQueue::new(ByteBoard::new(&mut block));
-    put_all::<WriteQueue<ByteBoard<'_>>>(&mut queue, 0, 17, 100);
-    let under = below::<ByteBoard<'_>>(&queue, 0, 1);
-    let shown = look::<WriteQueue<ByteBoard<'_>>>(&queue, 0, 1, 16);
+    put_all(&mut queue, 0, 17, 100);
+    let under = below(&queue, 0, 1);
+    let shown = look(&queue, 0, 1, 16);
     let past = done(queue.put(20, 1));
-    let still = below::<ByteBoard<'_>>(&queue, 16, 20);
+    let still = below(&queue, 16, 20);
     let board = queue.into_below();
     assert_eq!(rt; under, [16, 100, 7]);
     assert_eq!(rt; shown, [100, 101, 116]);
     assert_eq!(rt; past, 1012);
     assert_eq!(rt; still, [16, 7, 1012]);
-    assert_eq!(rt; look::<ByteBoard<'_>>(&board, 1, 16, 17), [101, 116, 7]);
+    assert_eq!(rt; look(&board, 1, 16, 17), [101, 116, 7]);
 }
 
 // A put to an address that waits keeps its place: address 5 stays the oldest, and goes below with its later value.
@@ -62,11 +62,11 @@ fn waiting_address_keeps_its_place(rt: HostRuntime) {
     let _ = queue.put(5, 1);
     let _ = queue.put(6, 2);
     let _ = queue.put(5, 3);
-    let two = below::<ByteBoard<'_>>(&queue, 5, 6);
-    put_all::<WriteQueue<ByteBoard<'_>>>(&mut queue, 10, 25, 0);
-    let full = below::<ByteBoard<'_>>(&queue, 5, 6);
+    let two = below(&queue, 5, 6);
+    put_all(&mut queue, 10, 25, 0);
+    let full = below(&queue, 5, 6);
     queue.drain();
-    let drained = below::<ByteBoard<'_>>(&queue, 6, 24);
+    let drained = below(&queue, 6, 24);
     let _ = queue.into_below();
     assert_eq!(rt; two, [2, 0, 0]);
     assert_eq!(rt; full, [16, 3, 0]);
@@ -78,16 +78,13 @@ fn stretch_past_the_end(rt: HostRuntime) {
     let mut block = [1u8, 2, 3, 4, 5, 6, 7, 8, 9, 10];
     let mut stretch = Stretch::new(ByteBoard::new(&mut block), 8, 5);
     assert_eq!(rt; stretch.size(), 2);
-    assert_eq!(rt;
-        look::<Stretch<ByteBoard<'_>>>(&stretch, 0, 1, 2),
-        [9, 10, 1012]
-    );
+    assert_eq!(rt; look(&stretch, 0, 1, 2), [9, 10, 1012]);
     assert_eq!(rt;
         [done(stretch.put(2, 77)), done(stretch.put(1, 77))],
         [1012, 0]
     );
     let board = stretch.into_below();
-    assert_eq!(rt; look::<ByteBoard<'_>>(&board, 7, 8, 9), [8, 9, 77]);
+    assert_eq!(rt; look(&board, 7, 8, 9), [8, 9, 77]);
 }
 
 #[test]
@@ -102,10 +99,7 @@ fn stretch_from_past_the_end(rt: HostRuntime) {
     assert_eq!(rt; all.size(), 3);
     let one = Stretch::new(all.into_below(), 1, 1);
     assert_eq!(rt; one.size(), 1);
-    assert_eq!(rt;
-        look::<Stretch<ByteBoard<'_>>>(&one, 0, 1, 2),
-        [2, 1012, 1012]
-    );
+    assert_eq!(rt; look(&one, 0, 1, 2), [2, 1012, 1012]);
 }
 
 // Byte 1 is the high half of word 0, and byte 2 the low half of word 1.
@@ -113,13 +107,13 @@ fn stretch_from_past_the_end(rt: HostRuntime) {
 fn halves_of_words(rt: HostRuntime) {
     let mut block = [0x1234u16, 0x5678];
     let mut queue = WriteQueue::new(Stretch::new(WordBoard::new(&mut block), 1, 2));
-    let before = look::<WriteQueue<Stretch<WordBoard<'_>>>>(&queue, 0, 1, 2);
+    let before = look(&queue, 0, 1, 2);
     let puts = [
         done(queue.put(0, 0xAB)),
         done(queue.put(1, 0xCD)),
         done(queue.put(2, 0xEF)),
     ];
-    let under = below::<Stretch<WordBoard<'_>>>(&queue, 0, 1);
+    let under = below(&queue, 0, 1);
     let words: &[u16] = queue.into_below().into_below().into_block();
     assert_eq!(rt; before, [0x12, 0x78, 1012]);
     assert_eq!(rt; puts, [0, 0, 1012]);
@@ -142,10 +136,7 @@ fn bytes_through_a_pile(rt: HostRuntime) {
         block,
     } = put_queued_bytes(block, 4, 9, 2, 60);
     assert_eq!(rt; [done(answer), byte(seen)], [1012, 1012]);
-    assert_eq!(rt;
-        look::<ByteBoard<'_>>(&ByteBoard::new(block), 3, 4, 5),
-        [0, 0, 50]
-    );
+    assert_eq!(rt; look(&ByteBoard::new(block), 3, 4, 5), [0, 0, 50]);
 }
 
 #[test]
