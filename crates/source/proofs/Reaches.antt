@@ -1,13 +1,11 @@
 -- What a source takes from memory ends within its reach.
-use Rattle.std.proofs.Common.{◌≡◌, ℕ, ◌+◌, ◌-◌, ◌*◌, ◌/◌, ◌%◌, ◌<◌, ◌≤◌, mul_comm, div-mul-le_self, arith}
+use Rattle.std.proofs.Common.{◌≡◌, ℕ, ◌+◌, ◌-◌, ◌*◌, ◌/◌, ◌%◌, ◌<◌, ◌≤◌, min, mul_comm, div-mul-le_self, arith}
 use Rattle.std.proofs.lemmas.Nat.{mul-le, div_below, mod_below, le-div}
-use Rattle.std.proofs.lemmas.Bool.Decides.{nat_tests}
 use Rattle.window.specs.Places.{area_of, cell}
 use Rattle.window.proofs.Limits.{limits_of}
 use Rattle.window.proofs.Places.{place_inside, cell_below}
 use Rattle.source.specs.declared.source.Source.{Source}
 use Rattle.source.specs.declared.source.Source.TheVariants.{Unused, Host, HostBits, Image, Pattern, Bits}
-use Rattle.source.specs.declared.rows.BitRows.{BitRows}
 use Rattle.source.specs.declared.rows.Unit.{Unit}
 use Rattle.source.specs.declared.rows.Unit.TheVariants.{Eight, Sixteen}
 use Rattle.source.specs.Units.{unit_bits}
@@ -47,8 +45,10 @@ unit_whole : (u : Unit) → unit_bits u % 8 ≡ 0
 unit_whole Eight = omega arith
 unit_whole Sixteen = omega arith
 
-columns_some : (b : BitRows) → 1 ≤ b.columns
-columns_some b = let h = b.some in grind (arith, nat_tests)
+-- units of bits, rounded up
+pub rounded_up : (u : Unit) (x : ℕ) → x / unit_bits u + min 1 (x % unit_bits u) ≡ (x + (unit_bits u - 1)) / unit_bits u
+rounded_up Eight x = omega arith
+rounded_up Sixteen x = omega arith
 
 pub taken_inside : (s : Source) (height : ℕ) → TakenInside (origin_of s) height
 taken_inside Unused height k h = omega arith
@@ -59,4 +59,4 @@ taken_inside (Pattern w s columns) height k h =
     let l = limits_of w in
     let a = area_of w in
     place_inside a l.width_some s.bytes (cell a columns k) l.height_some (cell_below a l.width_some columns k l.height_some)
-taken_inside (Bits b start) height k h = bit_inside (rows_of b) (unit_some b.unit) (columns_some b) start height k (unit_whole b.unit) h
+taken_inside (Bits b start) height k h = bit_inside (rows_of b) (unit_some b.unit) b.some start height k (unit_whole b.unit) h

@@ -1,5 +1,5 @@
 -- One-bit pictures: which bit of which unit a pixel takes.
-use Rattle.std.specs.Prelude.{ℕ, ◌+◌, ◌-◌, ◌*◌, ◌/◌, ◌%◌, min, cond, Ok, Err, Result, nat_lt}
+use Rattle.std.specs.Prelude.{ℕ, ◌+◌, ◌-◌, ◌*◌, ◌/◌, ◌%◌, min, if◌then◌else◌, Ok, Err, Result, nat_lt}
 use Rattle.refusal.specs.declared.Refusal.{Refusal}
 use Rattle.refusal.specs.Numbers.{number_of}
 use Rattle.source.specs.declared.rows.BitRows.{BitRows}
@@ -48,7 +48,7 @@ rows_reach r start height = start + row_units r * height * (r.unit / 8)
 
 -- rows of bits, or 5 where the start bit is no bit of the unit, or 7 where there are no columns
 abbrev pub rows_at : Rows → Result Rows ℕ
-rows_at r = cond (nat_lt r.start r.unit) (cond (nat_lt 0 r.columns) (Ok r) (Err 7)) (Err 5)
+rows_at r = if nat_lt r.start r.unit then (if nat_lt 0 r.columns then Ok r else Err 7) else Err 5
 
 abbrev pub shown_rows : Result BitRows Refusal → Result Rows ℕ
 shown_rows (Ok b) = Ok (rows_of b)

@@ -1,7 +1,7 @@
 // The bits of one-bit pictures.
 ghost use Rattle.std.specs.Prelude.{◌≡◌, ℕ, ◌+◌, ◌-◌, ◌*◌, ◌/◌, ◌%◌, ◌^◌, ◌<◌, ◌≤◌};
 ghost use Rattle.source.specs.Units.{unit_bits};
-ghost use Rattle.source.specs.Rows.{rows_of, row_units, depth_in_row, bit_of, unit_of, unit_pixels, bit_address, rows_reach, rows_at, shown_rows};
+ghost use Rattle.source.specs.Rows.{rows_of, skipped, row_units, depth_in_row, bit_of, unit_of, unit_pixels, bit_address, rows_reach, rows_at, shown_rows};
 
 use crate::rows::{BitRows, Unit};
 use refusal::Refusal;
@@ -33,20 +33,26 @@ impl BitRows {
         })
     }
 
+    // The bits of a row's first unit that lie above the start bit.
+    fn skipped(&self) -> u32
+        ensures { result ≡ skipped (rows_of self.now) }
+    {
+        self.unit.bits() as u32 - 1 - self.start_bit as u32
+    }
+
     // How many units a row has.
+    #[tactic(auto, using(crate::proofs::Reaches::rounded_up))]
     pub fn units(&self) -> u32
         ensures { result ≡ row_units (rows_of self.now) }
     {
-        let bits = self.unit.bits() as u32;
-        let skipped = bits - 1 - self.start_bit as u32;
-        (self.columns as u32 + skipped + (bits - 1)) / bits
+        (self.columns as u32 + self.skipped()).div_ceil(self.unit.bits() as u32)
     }
 
     // How far pixel k lies from the top bit of its row's first unit.
     fn depth_in_row(&self, k: u32) -> u32
         ensures { result ≡ depth_in_row (rows_of self.now) k }
     {
-        k % self.columns as u32 + (self.unit.bits() as u32 - 1 - self.start_bit as u32)
+        k % self.columns as u32 + self.skipped()
     }
 
     // The bit of its unit that pixel k takes.

@@ -1,5 +1,5 @@
 // A one-bit picture, row by row.
-ghost use Rattle.std.specs.Prelude.{◌≡◌, true, ltb, nat_lt};
+ghost use Rattle.std.specs.Prelude.{◌<◌};
 ghost use Rattle.source.specs.Units.{unit_bits};
 
 // The bits that come together.
@@ -17,6 +17,6 @@ pub struct BitRows {
     pub(crate) unit: Unit,
     pub(crate) start_bit: u8,
     pub(crate) columns: u16,
-    ghost within: { ltb start_bit (unit_bits unit) ≡ true },
-    ghost some: { nat_lt 0 columns ≡ true },
+    ghost within: { start_bit < unit_bits unit },
+    ghost some: { 0 < columns },
 }

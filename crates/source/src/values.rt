@@ -71,6 +71,7 @@ impl Source {
     }
 
     // The first address past all that a rectangle so many rows high takes from memory.
+    #[tactic(auto, using(crate::proofs::Reaches::taken_inside))]
     pub fn reach(&self, height: u16) -> u64
         ensures is { result ≡ reach_of (origin_of self.now) height }
         ensures inside { TakenInside (origin_of self.now) height }

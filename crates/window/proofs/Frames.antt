@@ -1,5 +1,5 @@
 -- What a pixel that is stored leaves, and what it gives back.
-use Rattle.std.proofs.Common.{◌≡◌, ℕ, zero, suc, ◌+◌, ◌*◌, ◌/◌, ◌%◌, ◌^◌, ◌<◌, ◌≤◌, ◌≢◌, List, length, get_or, set, sym, refl, ap, ◌∙◌, add-zero, add_assoc, mod-eq_of_lt, mul-suc, one-add, arith, lit<, pow_pos, pow-add}
+use Rattle.std.proofs.Common.{◌≡◌, ℕ, zero, suc, ◌+◌, ◌*◌, ◌/◌, ◌%◌, ◌^◌, ◌<◌, ◌≤◌, ◌≢◌, List, length, get_or, set, sym, refl, ap, ◌∙◌, mod-eq_of_lt, mul-suc, arith, lit<, pow_pos, pow-add}
 use lib.Arith.{mod-mul}
 use Rattle.std.proofs.lemmas.List.{length-set, set_comm, set-set, set-get_or, get_or-set_same, get_or-set_other}
 use Rattle.memory.specs.Bytes.{Sound}
@@ -18,9 +18,6 @@ apart_here a b c d o i h e = o 0 (omega arith) i h (omega arith)
 
 pub apart_next : (a b c d : ℕ) → Apart a (suc b) c d → Apart (a + 1) b c d
 apart_next a b c d o i h j k e = o (suc i) (omega arith) j k (omega arith)
-
-pub apart_sym : (a b c d : ℕ) → Apart a b c d → Apart c d a b
-apart_sym a b c d o j k i h e = o i h j k (sym e)
 
 self_off : (a b : ℕ) → Off (a + 1) b a
 self_off a b i h e = omega arith
@@ -51,15 +48,6 @@ stored_comm m a b v c zero w o = refl
 stored_comm m a b v c (suc d) w o =
     ap (λ n. stored n (c + 1) d (w / 256)) (set_stored m a b v c (w % 256) (apart_here c d a b o))
     ∙ stored_comm (set m c (w % 256)) a b v (c + 1) d (w / 256) (apart_next c d a b o)
-
--- a value rests only on its bytes
-pub value_same : (m n : List ℕ) (a b : ℕ) → ((i : ℕ) → i < b → get_or m (a + i) 0 ≡ get_or n (a + i) 0) → value_at m a b ≡ value_at n a b
-unfolding value_at
-value_same m n a zero e = refl
-value_same m n a (suc b) e =
-    let here : get_or m a 0 ≡ get_or n a 0 = rw (add-zero a) at (e 0 (omega arith)) in
-    let rest = value_same m n (a + 1) b (λ i h. rw (add_assoc a 1 i, one-add i) (e (suc i) (omega arith))) in
-    omega arith
 
 value_set : (m : List ℕ) (x y a b : ℕ) → Off a b x → value_at (set m x y) a b ≡ value_at m a b
 unfolding value_at

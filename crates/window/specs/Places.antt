@@ -1,5 +1,5 @@
 -- Where the pixels of a window lie.
-use Rattle.std.specs.Prelude.{ℕ, ◌+◌, ◌-◌, ◌*◌, ◌/◌, ◌%◌, cond, Ok, Err, Result, ◌==◌}
+use Rattle.std.specs.Prelude.{ℕ, ◌+◌, ◌-◌, ◌*◌, ◌/◌, ◌%◌, if◌then◌else◌, Ok, Err, Result, ◌==◌}
 use Rattle.refusal.specs.declared.Refusal.{Refusal}
 use Rattle.refusal.specs.Numbers.{number_of}
 use Rattle.window.specs.declared.area.Area.{Area}
@@ -12,7 +12,7 @@ area_of w = w.area
 
 -- a window, or 7 where the numbers lie outside the limits
 abbrev pub window_at : ℕ → Area → Result Area ℕ
-window_at limit a = cond (within limit a) (Ok a) (Err 7)
+window_at limit a = if within limit a then Ok a else Err 7
 
 abbrev pub shown : Result Window Refusal → Result Area ℕ
 shown (Ok w) = Ok (area_of w)
@@ -29,7 +29,7 @@ place a b k = a.start + ((a.top + k / a.width) * a.image + a.left + k % a.width)
 -- the pixel of a window that stands at pixel k of a rectangle with so many columns, where copies of the window lie
 -- side by side and below one another; no columns have the first pixel everywhere
 abbrev pub cell : Area → ℕ → ℕ → ℕ
-cell a columns k = cond (columns == 0) 0 (k / columns % a.height * a.width + k % columns % a.width)
+cell a columns k = if columns == 0 then 0 else k / columns % a.height * a.width + k % columns % a.width
 
 -- the first address past the window's last pixel
 abbrev pub reach : Area → ℕ → ℕ

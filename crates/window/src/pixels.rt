@@ -16,7 +16,7 @@ use refusal::Refusal;
 fn is_side(limit: u16, number: u16) -> bool
     ensures { result ≡ side limit number }
 {
-    1 <= number && number <= limit.min(SIDE_LIMIT)
+    (1..=limit.min(SIDE_LIMIT)).contains(&number)
 }
 
 fn is_within(limit: u16, area: Area) -> bool
@@ -56,14 +56,14 @@ impl Window {
 
     // Where pixel k begins. The numbers of a window are small enough that nothing wraps.
     #[tactic(auto, using(crate::proofs::Limits::pixel_low), unfolding(crate::specs::Places::place))]
-    fn address(&self, bytes_per_pixel: u8, k: u32) -> u64
-        ensures is { result ≡ place (area_of self.now) bytes_per_pixel k }
+    fn address(&self, size: PixelSize, k: u32) -> u64
+        ensures is { result ≡ place (area_of self.now) size.bytes k }
         ensures low { result < 2 ^ 60 }
     {
         let columns = self.area.width as u32;
         let row = self.area.top as u64 + (k / columns) as u64;
         let pixel = row * self.area.image as u64 + self.area.left as u64 + (k % columns) as u64;
-        self.area.start as u64 + pixel * bytes_per_pixel as u64
+        self.area.start as u64 + pixel * size.bytes as u64
     }
 
     // The pixel of the window that stands at pixel k of a rectangle so many columns wide, where copies of the window
@@ -91,43 +91,28 @@ impl Window {
     }
 
     // The value of pixel k.
+    #[tactic(auto, using(crate::proofs::Values::value_of_bytes))]
     pub fn load<M: Memory>(&self, size: PixelSize, memory: &M, k: u32) -> u32
         ensures { result ≡ value_at (M.bytes memory.now) (place (area_of self.now) size.bytes k) size.bytes }
     {
-        read_value(memory, self.address(size.bytes, k), size.bytes)
+        let from = self.address(size, k);
+        let mut bytes = [0; 4];
+        for (i, byte) in bytes[..size.bytes as usize].iter_mut().enumerate() {
+            *byte = byte_at(memory, from + i as u64);
+        }
+        u32::from_le_bytes(bytes)
     }
 
     // Stores a value as pixel k.
+    #[tactic(auto, using(crate::proofs::Values::stored_again), unfolding(crate::specs::Values::stored))]
     pub fn store<M: Memory>(&self, size: PixelSize, memory: &mut M, k: u32, value: u32)
         ensures { M.bytes memory.new ≡ stored (M.bytes memory.old) (place (area_of self.now) size.bytes k) size.bytes value }
     {
-        write_value(memory, self.address(size.bytes, k), size.bytes, value);
-    }
-}
-
-// The number that some bytes hold, low byte first.
-#[tactic(auto, using(crate::proofs::Values::value_again), unfolding(crate::specs::Values::value_at))]
-fn read_value<M: Memory>(memory: &M, at: u64, bytes_per_pixel: u8) -> u32
-    requires low { at < 2 ^ 60 }
-    requires few { bytes_per_pixel ≤ 4 }
-    ensures { result ≡ value_at (M.bytes memory.now) at bytes_per_pixel }
-{
-    let mut value = 0;
-    for i in (0..bytes_per_pixel).rev() {
-        value = value * 256 + byte_at(memory, at + i as u64) as u32;
-    }
-    value
-}
-
-#[tactic(auto, using(crate::proofs::Values::stored_again), unfolding(crate::specs::Values::stored))]
-fn write_value<M: Memory>(memory: &mut M, at: u64, bytes_per_pixel: u8, value: u32)
-    requires low { at < 2 ^ 60 }
-    requires few { bytes_per_pixel ≤ 4 }
-    ensures { M.bytes memory.new ≡ stored (M.bytes memory.old) at bytes_per_pixel value }
-{
-    let bytes = value.to_le_bytes();
-    for (i, byte) in bytes[..bytes_per_pixel as usize].iter().enumerate() {
-        put_byte(memory, at + i as u64, *byte);
+        let to = self.address(size, k);
+        let bytes = value.to_le_bytes();
+        for (i, byte) in bytes[..size.bytes as usize].iter().enumerate() {
+            put_byte(memory, to + i as u64, *byte);
+        }
     }
 }
 

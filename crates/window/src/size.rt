@@ -1,5 +1,5 @@
 // How many bytes a pixel has.
-ghost use Rattle.std.specs.Prelude.{◌≡◌, true, nat_lt};
+ghost use Rattle.std.specs.Prelude.{◌≡◌, ◌≤◌};
 
 // At most four, so that a value fits 32 bits.
 // A ghost field and no model: where a value with a model stands inside an enum, as it would in `Source`, another crate that keeps
@@ -7,5 +7,5 @@ ghost use Rattle.std.specs.Prelude.{◌≡◌, true, nat_lt};
 #[derive(Clone, Copy)]
 pub struct PixelSize {
     pub(crate) bytes: u8,
-    ghost few: { nat_lt bytes 5 ≡ true },
+    ghost few: { bytes ≤ 4 },
 }
