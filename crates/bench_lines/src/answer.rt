@@ -20,6 +20,7 @@ pub enum Answer {
 impl fmt::Display for Answer {
     ghost output = { λ a. Some (reply_text (reply_of a)) };
 
+    #[tactic(auto, using(crate::proofs::Printed::byte_printed, crate::proofs::Printed::count_printed, crate::proofs::Printed::number_printed))]
     fn fmt<W: fmt::Write>(&self, f: &mut fmt::Formatter<W>) -> fmt::Result {
         match *self {
             Answer::Done => write!(f, "ok"),

@@ -68,3 +68,7 @@ module _ (n rule x y : ℕ) (h : x < 2 ^ n) (k : y < 2 ^ n) where
 
   pub joined_is : joined n rule x y ≡ raster_bits n rule x y
   joined_is = same_from_bits_below n _ _ joined_lt (raster_lt n rule x y) (λ i l. joined_bit i l ∙ sym (raster_bit n rule x y i l))
+
+-- at the bits of a channel
+pub channel_joined : (rule x y : ℕ) → x < 256 → y < 256 → raster_bits 8 rule x y ≡ joined 8 rule x y
+channel_joined rule x y h k = sym (joined_is 8 rule x y h k)

@@ -26,6 +26,7 @@ fn zip_channels<F: Fn(u8, u8) -> u8>(first: Colour, second: Colour, f: F) -> Col
 
 // A raster rule on one channel. It is the or of the four ways in which two bits can stand, each of which one bit of the rule keeps
 // or drops. The rule is a number and no enum, since its bits are its truth table: each of the sixteen is a rule.
+#[tactic(auto, using(crate::proofs::Minterms::channel_joined))]
 pub fn raster_channel(rule: u8, first: u8, second: u8) -> u8
     ensures { result ≡ raster_channel rule first second }
 {
@@ -65,6 +66,7 @@ pub fn expanded_over(bit: u32, foreground: Colour) -> Option<Colour>
 
 // The mean of two channels, of which the first counts level times in 32 and the second the other times. A level above 32 counts
 // as 32.
+#[tactic(auto, using(crate::proofs::Blends::blend_between), unfolding(crate::specs::Blends::blend_channel))]
 pub fn blend_channel(level: u8, first: u8, second: u8) -> u8
     ensures mean { result ≡ blend_channel level first second }
     ensures between { Between first second result }

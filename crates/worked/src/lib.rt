@@ -50,6 +50,7 @@ fn units(unit: Unit, start_bit: u8, columns: u16) -> u32
     BitRows::new(unit, start_bit, columns).map_or(0, |rows| rows.units())
 }
 
+#[tactic(auto, unfolding(pixel::specs::Rasters::raster_bits, pixel::specs::Blends::blend_channel))]
 pub fn worked_examples() -> Worked
     ensures { result ≡ record {
       channel = 182;
