@@ -6,18 +6,14 @@ use refusal::Refusal;
 use samples::{settings, surface};
 
 // The grounds against a draft over one memory, and then over another.
-fn grounds<M: Memory>(draft: Draft, memory: &M, other: &M) -> [u8; 2] {
-    match draft.clear(memory) {
-        Ok(_) => [0, 0],
-        Err(declined) => {
-            let number = declined.refusal.number();
-            let Declined { draft, refusal: _ } = declined;
-            match draft.clear(other) {
-                Ok(_) => [number, 0],
-                Err(again) => [number, again.refusal.number()],
-            }
-        }
-    }
+fn grounds<M: Memory>(draft: Draft, memory: &M, other: &M) -> [Option<Refusal>; 2] {
+    let Err(Declined { draft, refusal }) = draft.clear(memory) else {
+        return [None, None];
+    };
+    [
+        Some(refusal),
+        draft.clear(other).err().map(|again| again.refusal),
+    ]
 }
 
 // What settings are declined with stays what they are declined with, until memory is large enough.
@@ -28,14 +24,23 @@ fn declined_again(rt: HostRuntime) {
     let mut block = [0u8; 2];
     let large = ByteBoard::new(&mut block);
     let no_such = Draft::new(settings(13, 0, 8));
-    assert_eq!(rt; grounds(no_such, &small, &large), [3, 3]);
+    assert_eq!(rt;
+        grounds(no_such, &small, &large),
+        [Some(Refusal::NoSuchOperation); 2]
+    );
     let target = surface(1, 0, 8);
     let past = Settings {
         target,
         ..settings(12, 0, 8)
     };
-    assert_eq!(rt; grounds(Draft::new(past), &small, &small), [8, 8]);
-    assert_eq!(rt; grounds(Draft::new(past), &small, &large), [8, 0]);
+    assert_eq!(rt;
+        grounds(Draft::new(past), &small, &small),
+        [Some(Refusal::PastMemory); 2]
+    );
+    assert_eq!(rt;
+        grounds(Draft::new(past), &small, &large),
+        [Some(Refusal::PastMemory), None]
+    );
 }
 
 // Runs a job that a draft came back from one memory for, over another.

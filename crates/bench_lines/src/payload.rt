@@ -5,7 +5,7 @@ ghost use Rattle.bench_lines.specs.Commands.{burst_line, as_burst};
 use crate::digits::byte;
 use std::marker::Model;
 
-// 1 to 32 bytes. An array with a count, since commands are Copy, which an ArrayVec is not. Zeros fill it up, so that the bytes
+// 1 to 32 bytes. An array with a count, since commands are Copy, for callers too, which an ArrayVec is not. Zeros fill it up, so that the bytes
 // alone say which payload it is.
 #[derive(Clone, Copy)]
 pub struct Payload {

@@ -38,6 +38,7 @@ const ENTRY_FIELDS: Fields = Fields {
     low: FieldWidth::Four,
 };
 
+// No `From<u16>`: an entry is twelve bits of a number.
 pub fn colour_of_entry(entry: u16) -> Colour
     ensures { result ≡ entry_colour entry }
 {

@@ -23,7 +23,8 @@ pub struct PartedJob<'a, 'b> {
 }
 
 impl PartedJob<'_, '_> {
-    // One part more; a declined feed or run changes nothing.
+    // One part more; a declined feed or run changes nothing. Not one text with the engine's `PartedDrawing`: a job may decline a part, and
+    // carries its own progress, so a trait over both would only add a clause for each difference.
     fn step<M: Memory>(&self, begun: &mut Begun, memory: &mut M, part: &Part<'_>)
         requires { serves begun.old (M.bytes memory.old) ≡ true }
         ensures job { begun.new ≡ at_stage begun.old (stepped (op_at begun.old.plan) self.now.palette (stage_of begun.old (M.bytes memory.old)) (portion_of part.now)) }

@@ -49,7 +49,7 @@ impl<R: PixelRule, D: Canvas> Drawing<R, D> {
 
     // Draws so many pixels, or as many as are left, from `first` on, and answers how many that were. Palette and memory come
     // apart, here and in jobs, since the one is read and the other written: lent as one, each contract would have to add that
-    // the palette stays.
+    // the palette stays. So do memory and progress, of which a draw changes the one alone.
     #[tactic(auto, using(crate::proofs::Painting::painted_more), unfolding(crate::specs::Painted::painted))]
     pub fn draw<M: Memory>(
         &self,

@@ -14,7 +14,7 @@ pub use overlays::{Argb4444, Index26, OverlayKind};
 use tables::{COLOURS, row};
 
 // The canvases are types of their own over one text in `Fields`: widths as const parameters would admit formats that fill no
-// bytes and so keep no laws.
+// bytes and so keep no laws, and a trait of widths would name for each what its impl now says.
 #[derive(Clone, Copy, PartialEq, Eq, Debug)]
 pub struct Rgb332;
 

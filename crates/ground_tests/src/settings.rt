@@ -1,4 +1,5 @@
-// The ground against settings, by its number, as the sheets have it.
+// The ground against settings, by its number: the tests say which number a host sees, and an Option of a refusal would make no row of
+// a table plainer.
 use job::Settings;
 use memory::ByteBoard;
 use samples::begin;

@@ -21,7 +21,8 @@ pub struct BitFormat {
     pub start_bit: u8,
 }
 
-// Where the first source comes from, and its format: the six kinds of `FirstKind`, each with what its depth was parsed into.
+// Where the first source comes from, and its format: the six kinds of `FirstKind`, which an operation has before any depth is parsed,
+// each with what its depth was parsed into.
 #[derive(Clone, Copy)]
 pub enum FirstFormat {
     Nothing,
@@ -45,7 +46,7 @@ pub struct Formats {
     pub canvas: Depth,
 }
 
-// The format of pixels with a depth code.
+// The format of pixels with a depth code. No `TryFrom`, here and for units: the codes are a start's, and the types other crates'.
 fn depth_of(code: u8) -> Result<Depth, Refusal>
     ensures { numbered result ≡ tested 4 (nat_le code 3) (depth_at code) }
 {

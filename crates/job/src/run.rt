@@ -51,7 +51,7 @@ impl Cleared {
 }
 
 impl Begun {
-    // Whether bytes are awaited.
+    // Whether bytes are awaited. What a state of a job holds to is handed on by a call of each, since callers see its model alone.
     pub fn awaits(&self) -> bool
         ensures answer { result ≡ awaits self.now }
         ensures inside { LiesInside self.now }

@@ -42,6 +42,7 @@ impl Pending {
         }
     }
 
+    // The bound and `Once` are handed on, since the queue sees the list alone.
     pub(crate) fn len(&self) -> usize
         ensures count { result ≡ length self.now }
         ensures most { length self.now ≤ 16 }
@@ -57,7 +58,7 @@ impl Pending {
         self.table.is_full()
     }
 
-    // The place of the entry for an address: there is no second one.
+    // The place of the entry for an address: there is no second one. A place and no reference, which would keep the table lent.
     pub(crate) fn place(&self, address: u32) -> Option<usize>
         ensures { MatchOption result (Absent self.now address) (λ i. Last self.now address i) }
     {

@@ -1,4 +1,5 @@
-// What is under way: the four states of a panel, each named, and so no Option of what is under way.
+// What is under way: the four states of a panel, each named, and so no Option of what is under way. A rule of the panel is that each
+// call matches the state that it meets.
 use job::Begun;
 
 #[derive(Drop)]

@@ -101,6 +101,7 @@ impl<M: Memory> Panel<M> {
         Ok(())
     }
 
+    // Any number, as in a write.
     pub fn read(&self, register: u8) -> Result<u8, Refusal>
         ensures { numbered result ≡ register_read (seen M.bytes self.now) register }
     {

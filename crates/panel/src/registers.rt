@@ -6,7 +6,8 @@ use crate::register::Register;
 use colour::Colour;
 use job::{Settings, Surface};
 
-// A source or the destination, as its four numbers stand in the file, low bytes first.
+// A source or the destination, as its four numbers stand in the file, low bytes first. Its depth is a number, since which depths are
+// taken is judged when a draft is cleared.
 fn surface(depth: u8, bytes: [u8; 10]) -> Surface
     ensures { result ≡ surface_at bytes depth 0 }
 {
@@ -19,6 +20,7 @@ fn surface(depth: u8, bytes: [u8; 10]) -> Surface
     }
 }
 
+// No `From`: a colour is another crate's type.
 fn colour(bytes: [u8; 3]) -> Colour
     ensures { result ≡ colour_at bytes 0 }
 {
@@ -66,13 +68,13 @@ impl Registers {
     pub(crate) fn settings(&self, control: u8) -> Settings
         ensures { result ≡ settings_of self.now.places control }
     {
-        let operation = self.places[0x91];
-        let depths = self.places[0x92];
+        let [operation, depths] = self.bytes::<2>(0x91);
+        let [level] = self.bytes::<1>(0xB5);
         Settings {
             operation: operation % 16,
             code: operation / 16,
             large: control % 2 == 1,
-            level: self.places[0xB5] % 64,
+            level: level % 64,
             first: surface(depths / 32 % 4, self.bytes(0x93)),
             second: surface(depths / 4 % 8, self.bytes(0x9D)),
             target: surface(depths % 4, self.bytes(0xA7)),

@@ -41,7 +41,8 @@ pub(crate) fn check_drawn(
     Ok(())
 }
 
-// The same for a job that the host serves: what each burst comes to, and what the block then holds.
+// The same for a job that the host serves: what each burst comes to, and what the block then holds. Bursts and answers are two arrays,
+// as `feed` takes the one and gives the other.
 pub(crate) fn check_fed(
     rt: &impl Abort,
     block: &mut [u8],

@@ -43,7 +43,8 @@ pub fn put_queued_bytes<'a>(
     }
 }
 
-// What a put and a read answered, how many puts then waited, and the stretch once the queue is taken apart.
+// What a put and a read answered, how many puts then waited, and the stretch once the queue is taken apart: another pile, so other
+// facts, and not one type with `BytePut`.
 #[derive(Drop)]
 pub struct WordPut<'a> {
     pub answer: Result<(), Refusal>,

@@ -1,32 +1,16 @@
-// Values worked by hand. A refusal shows as 1000 and its number.
+// Values worked by hand.
 use super::*;
 
-fn byte(answer: Result<u8, Refusal>) -> u16 {
-    match answer {
-        Ok(value) => value as u16,
-        Err(refusal) => 1000 + refusal.number() as u16,
-    }
+// What a read or a put past the end answers.
+const PAST: Refusal = Refusal::NoSuchAddress;
+
+fn look<M: Memory>(memory: &M, first: u32, second: u32, third: u32) -> [Result<u8, Refusal>; 3] {
+    [memory.read(first), memory.read(second), memory.read(third)]
 }
 
-fn done(answer: Result<(), Refusal>) -> u16 {
-    byte(answer.map(|()| 0))
-}
-
-fn look<M: Memory>(memory: &M, first: u32, second: u32, third: u32) -> [u16; 3] {
-    [
-        byte(memory.read(first)),
-        byte(memory.read(second)),
-        byte(memory.read(third)),
-    ]
-}
-
-// How many puts wait, and what lies below two addresses.
-fn below<M: Memory>(queue: &WriteQueue<M>, first: u32, second: u32) -> [u16; 3] {
-    [
-        queue.waiting_count() as u16,
-        byte(queue.read_below(first)),
-        byte(queue.read_below(second)),
-    ]
+// What lies below two addresses.
+fn below<M: Memory>(queue: &WriteQueue<M>, first: u32, second: u32) -> [Result<u8, Refusal>; 2] {
+    [queue.read_below(first), queue.read_below(second)]
 }
 
 // Puts `value` at `start`, one more at the next address, and so on.
@@ -42,16 +26,19 @@ fn oldest_goes_below(rt: HostRuntime) {
     let mut block = [7u8; 20];
     let mut queue = WriteQueue::new(ByteBoard::new(&mut block));
     put_all(&mut queue, 0, 17, 100);
+    let waiting = queue.waiting_count();
     let under = below(&queue, 0, 1);
     let shown = look(&queue, 0, 1, 16);
-    let past = done(queue.put(20, 1));
+    let past = queue.put(20, 1);
+    let still_waiting = queue.waiting_count();
     let still = below(&queue, 16, 20);
     let board = queue.into_below();
-    assert_eq!(rt; under, [16, 100, 7]);
-    assert_eq!(rt; shown, [100, 101, 116]);
-    assert_eq!(rt; past, 1012);
-    assert_eq!(rt; still, [16, 7, 1012]);
-    assert_eq!(rt; look(&board, 1, 16, 17), [101, 116, 7]);
+    assert_eq!(rt; [waiting, still_waiting], [16, 16]);
+    assert_eq!(rt; under, [Ok(100), Ok(7)]);
+    assert_eq!(rt; shown, [Ok(100), Ok(101), Ok(116)]);
+    assert_eq!(rt; past, Err(PAST));
+    assert_eq!(rt; still, [Ok(7), Err(PAST)]);
+    assert_eq!(rt; look(&board, 1, 16, 17), [Ok(101), Ok(116), Ok(7)]);
 }
 
 // A put to an address that waits keeps its place: address 5 stays the oldest, and goes below with its later value.
@@ -62,15 +49,19 @@ fn waiting_address_keeps_its_place(rt: HostRuntime) {
     let _ = queue.put(5, 1);
     let _ = queue.put(6, 2);
     let _ = queue.put(5, 3);
+    let two_wait = queue.waiting_count();
     let two = below(&queue, 5, 6);
     put_all(&mut queue, 10, 25, 0);
+    let all_wait = queue.waiting_count();
     let full = below(&queue, 5, 6);
     queue.drain();
+    let none_wait = queue.waiting_count();
     let drained = below(&queue, 6, 24);
     let _ = queue.into_below();
-    assert_eq!(rt; two, [2, 0, 0]);
-    assert_eq!(rt; full, [16, 3, 0]);
-    assert_eq!(rt; drained, [0, 2, 24]);
+    assert_eq!(rt; [two_wait, all_wait, none_wait], [2, 16, 0]);
+    assert_eq!(rt; two, [Ok(0), Ok(0)]);
+    assert_eq!(rt; full, [Ok(3), Ok(0)]);
+    assert_eq!(rt; drained, [Ok(2), Ok(24)]);
 }
 
 #[test]
@@ -78,13 +69,13 @@ fn stretch_past_the_end(rt: HostRuntime) {
     let mut block = [1u8, 2, 3, 4, 5, 6, 7, 8, 9, 10];
     let mut stretch = Stretch::new(ByteBoard::new(&mut block), 8, 5);
     assert_eq!(rt; stretch.size(), 2);
-    assert_eq!(rt; look(&stretch, 0, 1, 2), [9, 10, 1012]);
+    assert_eq!(rt; look(&stretch, 0, 1, 2), [Ok(9), Ok(10), Err(PAST)]);
     assert_eq!(rt;
-        [done(stretch.put(2, 77)), done(stretch.put(1, 77))],
-        [1012, 0]
+        [stretch.put(2, 77), stretch.put(1, 77)],
+        [Err(PAST), Ok(())]
     );
     let board = stretch.into_below();
-    assert_eq!(rt; look(&board, 7, 8, 9), [8, 9, 77]);
+    assert_eq!(rt; look(&board, 7, 8, 9), [Ok(8), Ok(9), Ok(77)]);
 }
 
 #[test]
@@ -94,12 +85,12 @@ fn stretch_from_past_the_end(rt: HostRuntime) {
     assert_eq!(rt; at_end.size(), 0);
     let mut past = Stretch::new(at_end.into_below(), 4, 5);
     assert_eq!(rt; past.size(), 0);
-    assert_eq!(rt; done(past.put(0, 9)), 1012);
+    assert_eq!(rt; past.put(0, 9), Err(PAST));
     let all = Stretch::new(past.into_below(), 0, 4_294_967_295);
     assert_eq!(rt; all.size(), 3);
     let one = Stretch::new(all.into_below(), 1, 1);
     assert_eq!(rt; one.size(), 1);
-    assert_eq!(rt; look(&one, 0, 1, 2), [2, 1012, 1012]);
+    assert_eq!(rt; look(&one, 0, 1, 2), [Ok(2), Err(PAST), Err(PAST)]);
 }
 
 // Byte 1 is the high half of word 0, and byte 2 the low half of word 1.
@@ -108,16 +99,14 @@ fn halves_of_words(rt: HostRuntime) {
     let mut block = [0x1234u16, 0x5678];
     let mut queue = WriteQueue::new(Stretch::new(WordBoard::new(&mut block), 1, 2));
     let before = look(&queue, 0, 1, 2);
-    let puts = [
-        done(queue.put(0, 0xAB)),
-        done(queue.put(1, 0xCD)),
-        done(queue.put(2, 0xEF)),
-    ];
+    let puts = [queue.put(0, 0xAB), queue.put(1, 0xCD), queue.put(2, 0xEF)];
+    let waiting = queue.waiting_count();
     let under = below(&queue, 0, 1);
     let words: &[u16] = queue.into_below().into_below().into_block();
-    assert_eq!(rt; before, [0x12, 0x78, 1012]);
-    assert_eq!(rt; puts, [0, 0, 1012]);
-    assert_eq!(rt; under, [2, 0x12, 0x78]);
+    assert_eq!(rt; before, [Ok(0x12), Ok(0x78), Err(PAST)]);
+    assert_eq!(rt; puts, [Ok(()), Ok(()), Err(PAST)]);
+    assert_eq!(rt; waiting, 2);
+    assert_eq!(rt; under, [Ok(0x12), Ok(0x78)]);
     assert_eq!(rt; words, [0xAB34, 0x56CD].as_slice());
 }
 
@@ -129,14 +118,17 @@ fn bytes_through_a_pile(rt: HostRuntime) {
         seen,
         block,
     } = put_queued_bytes(&mut bytes, 4, 9, 1, 50);
-    assert_eq!(rt; [done(answer), byte(seen)], [0, 50]);
+    assert_eq!(rt; (answer, seen), (Ok(()), Ok(50)));
     let BytePut {
         answer,
         seen,
         block,
     } = put_queued_bytes(block, 4, 9, 2, 60);
-    assert_eq!(rt; [done(answer), byte(seen)], [1012, 1012]);
-    assert_eq!(rt; look(&ByteBoard::new(block), 3, 4, 5), [0, 0, 50]);
+    assert_eq!(rt; (answer, seen), (Err(PAST), Err(PAST)));
+    assert_eq!(rt;
+        look(&ByteBoard::new(block), 3, 4, 5),
+        [Ok(0), Ok(0), Ok(50)]
+    );
 }
 
 #[test]
@@ -148,7 +140,7 @@ fn words_through_a_pile(rt: HostRuntime) {
         waiting,
         stretch,
     } = put_stretched_words(&mut words, 1, 2, 1, 0x7F);
-    assert_eq!(rt; [done(answer), byte(seen), waiting as u16], [0, 0x7F, 1]);
+    assert_eq!(rt; (answer, seen, waiting), (Ok(()), Ok(0x7F), 1));
     let words: &[u16] = stretch.into_below().into_block();
     assert_eq!(rt; words, [0x1111, 0x227F].as_slice());
 }

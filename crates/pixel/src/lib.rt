@@ -37,6 +37,7 @@ pub fn raster_channel(rule: u8, first: u8, second: u8) -> u8
     both | only_first | only_second | neither
 }
 
+// The same on each channel, by a rule that is a number for the same reason.
 pub fn raster(rule: u8, first: Colour, second: Colour) -> Option<Colour>
     ensures { result ≡ Some (rastered rule first second) }
 {

@@ -1,4 +1,4 @@
-// Units of one-bit pictures, counted and placed by hand.
+// Units of one-bit pictures, counted and placed by hand. Each call is a row of one line, so that a loop over a table would be no plainer.
 use source::{BitRows, Unit};
 use std::test::Fail;
 

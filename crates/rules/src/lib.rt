@@ -71,7 +71,8 @@ impl PixelRule for Expand {
     }
 }
 
-// A pattern of one bit a pixel, whose zeros are transparent.
+// A pattern of one bit a pixel, whose zeros are transparent. A rule of its own and no Option of a background, as the chip has an
+// operation for each.
 #[derive(Clone, Copy)]
 pub struct ExpandOver {
     pub foreground: Colour,
@@ -85,7 +86,7 @@ impl PixelRule for ExpandOver {
     }
 }
 
-// Both sources, blended at one level.
+// Both sources, blended at one level. Not one type with `Raster`: only their fields look alike.
 #[derive(Clone, Copy)]
 pub struct Blend<F, S> {
     pub level: u8,

@@ -12,7 +12,7 @@ pub enum Source {
     Host(PixelSize),
     // bits that the host sends, in units
     HostBits(BitRows),
-    // the pixels of a window
+    // the pixels of a window; its size stands beside it and not in it, since a destination's is that of its canvas
     Image {
         window: Window,
         size: PixelSize,

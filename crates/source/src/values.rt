@@ -26,7 +26,7 @@ fn held_at<M: Memory>(memory: &M, address: u64) -> u32
 }
 
 impl Source {
-    // The value of pixel k, where the host sent a number.
+    // The value of pixel k, where the host sent a number: any number where it serves nothing, since then no source takes it.
     pub fn value<M: Memory>(&self, memory: &M, sent: u32, k: u32) -> u32
         ensures { result ≡ sampled (origin_of self.now) (M.bytes memory.now) sent k }
     {
@@ -47,7 +47,7 @@ impl Source {
         }
     }
 
-    // How many bytes the host sends together, or 0 where it sends none.
+    // How many bytes the host sends together, or 0 where it sends none. No Option: the number is compared with the bytes that wait.
     pub fn awaited(&self) -> u8
         ensures is { result ≡ awaited (origin_of self.now) }
         ensures few { result ≤ 4 }

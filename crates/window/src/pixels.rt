@@ -79,7 +79,7 @@ impl Window {
         row * self.area.width as u32 + k % columns % self.area.width as u32
     }
 
-    // The first address past the last pixel.
+    // The first address past the last pixel. Of any number of bytes, so that a caller needs no `PixelSize` to ask.
     pub fn reach(&self, bytes_per_pixel: u8) -> u64
         ensures { result ≡ reach (area_of self.now) bytes_per_pixel }
     {

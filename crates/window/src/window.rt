@@ -7,7 +7,7 @@ use crate::area::Area;
 // The largest image width and rectangle side of our panels.
 pub const SIDE_LIMIT: u16 = 8191;
 
-// A ghost field and no model: where a value with a model stands inside an enum, as it would in `Source`, another crate that keeps
+// Clauses see its numbers by `area_of`. A ghost field and no model: where a value with a model stands inside an enum, as it would in `Source`, another crate that keeps
 // a drawing over a branch gets no proof.
 #[derive(Clone, Copy)]
 pub struct Window {
