@@ -1,47 +1,31 @@
--- What the bench answers to a call, and what the call leaves.
+-- What the bench answers to a line, and what the line leaves.
 use Rattle.std.specs.Prelude.{ℕ, Some, None, Ok, Err, Option, Result}
-use Rattle.memory.specs.Bytes.{read_at}
-use Rattle.panel.specs.State.{State, answer_of, after_of, written, register_read, run_answer, run_after, stop_answer, stopped, status_of}
-use Rattle.bench_lines.specs.Answers.{Reply}
-use Rattle.bench_lines.specs.Answers as reply
-use Rattle.bench_lines.specs.Commands.{Call}
-use Rattle.bench_lines.specs.Commands as call
+use Rattle.panel_calls.specs.Calls.{Call}
+use Rattle.panel_calls.specs.Replies as call
+use Rattle.panel.specs.State.{State}
+use Rattle.panel.specs.Calls.{answered, left_by}
+use Rattle.bench_lines.specs.Answers.{Reply, done, byte, count, counts, refused, malformed}
 
-abbrev pub done_reply : Result Unit ℕ → Reply
-done_reply (Ok _) = reply.done
-done_reply (Err n) = reply.refused n
+-- what is printed for a result: the value in its form, or the refusal's number
+abbrev pub printed_as : {A : Type 0} → (A → Reply) → Result A ℕ → Reply
+printed_as form (Ok x) = form x
+printed_as form (Err n) = refused n
 
-abbrev pub count_reply : Result ℕ ℕ → Reply
-count_reply (Ok n) = reply.count n
-count_reply (Err n) = reply.refused n
-
-abbrev pub byte_reply : Result ℕ ℕ → Reply
-byte_reply (Ok b) = reply.byte b
-byte_reply (Err n) = reply.refused n
-
-abbrev pub call_reply : State → Call → Reply
-call_reply s (call.write r v) = done_reply (answer_of (written s r v))
-call_reply s (call.read r) = byte_reply (register_read s r)
-call_reply s (call.burst _) = reply.malformed
-call_reply s (call.run n) = count_reply (run_answer s s.doing n)
-call_reply s call.stop = count_reply (stop_answer s.doing)
-call_reply s call.status = reply.byte (status_of s.doing)
-call_reply s (call.memory a) = byte_reply (read_at s.memory a)
-
-abbrev pub call_after : State → Call → State
-call_after s (call.write r v) = after_of s (written s r v)
-call_after s (call.read r) = s
-call_after s (call.burst _) = s
-call_after s (call.run n) = run_after s s.doing n
-call_after s call.stop = stopped s
-call_after s call.status = s
-call_after s (call.memory a) = s
+-- what is printed for the answer of a call
+abbrev pub printed : call.Reply → Reply
+printed (call.write r) = printed_as (λ _. done) r
+printed (call.read r) = printed_as byte r
+printed (call.burst r) = printed_as (λ p. counts p.0 p.1) r
+printed (call.run r) = printed_as count r
+printed (call.stop r) = printed_as count r
+printed (call.status v) = byte v
+printed (call.memory r) = printed_as byte r
 
 -- a malformed line changes nothing
 abbrev pub line_reply : State → Option Call → Reply
-line_reply s None = reply.malformed
-line_reply s (Some c) = call_reply s c
+line_reply s None = malformed
+line_reply s (Some c) = printed (answered s c)
 
 abbrev pub line_after : State → Option Call → State
 line_after s None = s
-line_after s (Some c) = call_after s c
+line_after s (Some c) = left_by s c

@@ -4,9 +4,10 @@
 ghost use Rattle.std.specs.Prelude.{◌≡◌, ◌==◌, position, ℕ, ◌<◌, ◌≤◌, List, [], ◌∷◌, ◌++◌, replicate, OnOk};
 ghost use Rattle.std.specs.Iterator.{YieldsFirstRef, item_count};
 ghost use Rattle.panel.specs.State.{seen, fresh};
+ghost use Rattle.panel.specs.Calls.{answered, left_by};
 ghost use Rattle.bench_lines.specs.Commands.{call_of, command_of};
 ghost use Rattle.bench_lines.specs.Answers.{reply_of};
-ghost use Rattle.bench.specs.Replies.{call_reply, call_after, line_reply, line_after};
+ghost use Rattle.bench.specs.Replies.{printed, line_reply, line_after};
 ghost use Rattle.bench.specs.Scripts.{lines, transcript, Replayed};
 
 use bench_lines::{Answer, Command};
@@ -14,10 +15,10 @@ use memory::{ByteBoard, Memory};
 use panel::Panel;
 use std::alloc::AllocError;
 
-// Makes the call that a command is. A burst is not built yet, and its line counts as malformed.
+// Makes the call that a command is.
 fn perform<M: Memory>(panel: &mut Panel<M>, command: Command) -> Answer
-    ensures answer { reply_of result ≡ call_reply (seen M.bytes panel.old) (call_of command) }
-    ensures after { seen M.bytes panel.new ≡ call_after (seen M.bytes panel.old) (call_of command) }
+    ensures answer { reply_of result ≡ printed (answered (seen M.bytes panel.old) (call_of command)) }
+    ensures after { seen M.bytes panel.new ≡ left_by (seen M.bytes panel.old) (call_of command) }
 {
     match command {
         Command::Write { register, value } => panel
@@ -26,7 +27,10 @@ fn perform<M: Memory>(panel: &mut Panel<M>, command: Command) -> Answer
         Command::Read { register } => panel
             .read(register)
             .map_or_else(Answer::Refused, Answer::Byte),
-        Command::Burst(_) => Answer::Malformed,
+        Command::Burst(payload) => panel.burst(payload.bytes()).map_or_else(
+            Answer::Refused,
+            |(taken, drawn)| Answer::Counts { taken, drawn },
+        ),
         Command::Run { pixels } => panel
             .run(u32::from(pixels))
             .map_or_else(Answer::Refused, Answer::Count),

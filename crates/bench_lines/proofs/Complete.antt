@@ -1,10 +1,11 @@
 -- The spelling of each call reads back as that call.
 use Rattle.std.proofs.Common.{◌≡◌, ℕ, ◌+◌, ◌-◌, ◌*◌, ◌/◌, ◌%◌, ◌<◌, ◌≤◌, List, [], ◌∷◌, length, get_or, drop, Some, sym, refl, ap, ◌∙◌, add-zero, arith}
 use Rattle.std.proofs.lemmas.List.{get_or-drop, drop-drop}
+use Rattle.panel_calls.specs.Calls.{Call, write, read, burst, run, stop, status, memory}
 use Rattle.bench_lines.proofs.Bursts.{burst_shaped}
 use Rattle.std.specs.List.{flat_map, AllByRecursion}
 use Rattle.bench_lines.specs.Answers.{digit, hex_byte}
-use Rattle.bench_lines.specs.Commands.{Call, write, read, burst, run, stop, status, memory, command_of, as_burst, with_first, bytes_at}
+use Rattle.bench_lines.specs.Commands.{command_of, as_burst, with_first, bytes_at}
 use Rattle.bench_lines.specs.Spelling.{spelled, Sayable}
 use Rattle.bench_lines.proofs.Fields.{byte_reads}
 

@@ -5,9 +5,10 @@ use Rattle.std.proofs.lemmas.Bool.{eqb-true, and_parts, cases_Bool, cond-true, c
 use Rattle.std.proofs.lemmas.Bool.Decides.{nat_tests}
 use Rattle.std.proofs.lemmas.List.{drop_more, drop_all}
 use Rattle.std.proofs.lemmas.Option.{none-some}
+use Rattle.panel_calls.specs.Calls.{Call, write, read, burst, run, stop, status, memory}
 use Rattle.bench_lines.specs.Digits.{both_of, byte_at, spaced}
 use Rattle.bench_lines.specs.Answers.{hex_byte}
-use Rattle.bench_lines.specs.Commands.{Call, write, read, burst, run, stop, status, memory, command_of, as_burst, write_line, read_register, run_line, memory_line, burst_line, alone, with_first, bytes_at}
+use Rattle.bench_lines.specs.Commands.{command_of, as_burst, write_line, read_register, run_line, memory_line, burst_line, alone, with_first, bytes_at}
 use Rattle.bench_lines.specs.Spelling.{spelled, Sayable}
 use Rattle.bench_lines.proofs.Fields.{cond_some, both_some, space_spelled, byte_spelled, count_bytes, address_bytes}
 

@@ -4,11 +4,13 @@ use Rattle.refusal.specs.Numbers.{number_of}
 use Rattle.bench_lines.specs.declared.answer.Answer.{Answer}
 use Rattle.bench_lines.specs.declared.answer.Answer.TheVariants as answer
 
--- what a call answered, a refusal by its number
+-- an answer as it is written, a refusal by its number
 pub data Reply : Type 0 where
   done : Reply
   byte : ℕ → Reply
   count : ℕ → Reply
+  -- the bytes taken and the pixels drawn
+  counts : ℕ → ℕ → Reply
   refused : ℕ → Reply
   malformed : Reply
 
@@ -16,6 +18,7 @@ abbrev pub reply_of : Answer → Reply
 reply_of answer.Done = done
 reply_of (answer.Byte b) = byte b
 reply_of (answer.Count n) = count n
+reply_of (answer.Counts t d) = counts t d
 reply_of (answer.Refused r) = refused (number_of r)
 reply_of answer.Malformed = malformed
 
@@ -39,6 +42,7 @@ abbrev pub reply_text : Reply → List ℕ
 reply_text done = codes "ok"
 reply_text (byte b) = codes "ok " ++ hex_byte b
 reply_text (count n) = codes "ok " ++ hex_count n
+reply_text (counts t d) = codes "ok " ++ hex_count t ++ 32 ∷ hex_count d
 reply_text (refused n) = codes "no " ++ decimal n
 reply_text malformed = codes "??"
 

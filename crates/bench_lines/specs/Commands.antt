@@ -1,19 +1,11 @@
 -- Which command a line is.
 use Rattle.std.specs.Prelude.{ℕ, zero, suc, ◌+◌, ◌-◌, ◌*◌, ◌/◌, ◌%◌, cond, ◌&&◌, List, [], ◌∷◌, length, Some, None, Option, ◌==◌, nat_le, slice_index_or}
+use Rattle.panel_calls.specs.Calls.{Call, write, read, burst, run, stop, status, memory}
 use Rattle.bench_lines.specs.declared.command.Command.{Command}
 use Rattle.bench_lines.specs.declared.command.Command.TheVariants as command
 use Rattle.bench_lines.specs.Digits.{both_of, byte_at, spaced}
 
--- a call with its values
-pub data Call : Type 0 where
-  write : ℕ → ℕ → Call
-  read : ℕ → Call
-  burst : List ℕ → Call
-  run : ℕ → Call
-  stop : Call
-  status : Call
-  memory : ℕ → Call
-
+-- the call that a command is
 abbrev pub call_of : Command → Call
 call_of (command.Write r v) = write r v
 call_of (command.Read r) = read r

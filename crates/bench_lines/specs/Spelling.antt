@@ -1,8 +1,8 @@
 -- How each call is written as a line, and which calls can be written.
 use Rattle.std.specs.Prelude.{ℕ, ◌/◌, ◌<◌, ◌≤◌, List, ◌++◌, length, codes}
 use Rattle.std.specs.List.{flat_map, AllByRecursion}
+use Rattle.panel_calls.specs.Calls.{Call, write, read, burst, run, stop, status, memory}
 use Rattle.bench_lines.specs.Answers.{hex_byte, hex_count}
-use Rattle.bench_lines.specs.Commands.{Call, write, read, burst, run, stop, status, memory}
 
 -- six digits
 abbrev pub hex_address : ℕ → List ℕ

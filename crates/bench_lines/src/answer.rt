@@ -12,6 +12,8 @@ pub enum Answer {
     Done,
     Byte(u8),
     Count(u32),
+    // The bytes taken and the pixels drawn.
+    Counts { taken: usize, drawn: u32 },
     Refused(Refusal),
     Malformed,
 }
@@ -26,6 +28,9 @@ impl fmt::Display for Answer {
             Answer::Done => write!(f, "ok"),
             Answer::Byte(byte) => write!(f, "ok {byte:02X}"),
             Answer::Count(count) => write!(f, "ok {:04X}", count % 65_536),
+            Answer::Counts { taken, drawn } => {
+                write!(f, "ok {:04X} {:04X}", taken % 65_536, drawn % 65_536)
+            }
             Answer::Refused(refusal) => write!(f, "no {:02}", refusal.number()),
             Answer::Malformed => write!(f, "??"),
         }

@@ -1,6 +1,7 @@
 // A command line: a letter, then fields of upper-case hexadecimal digits, a single space before each.
 ghost use Rattle.std.specs.Prelude.{◌≡◌, ℕ, ◌+◌, ◌*◌, ◌<◌, ◌≤◌, Bool, List, [], ◌∷◌, ◌++◌, length, Some, slice_index};
-ghost use Rattle.bench_lines.specs.Commands.{Call, meant, write_line, read_register, burst_line, run_line, memory_line, alone, call_of, command_of};
+ghost use Rattle.panel_calls.specs.Calls.{Call};
+ghost use Rattle.bench_lines.specs.Commands.{meant, write_line, read_register, burst_line, run_line, memory_line, alone, call_of, command_of};
 ghost use Rattle.bench_lines.specs.Spelling.{spelled, Sayable};
 
 use crate::digits::byte;

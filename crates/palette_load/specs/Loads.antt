@@ -1,22 +1,22 @@
 -- What the bytes of a palette load do.
-use Rattle.std.specs.Prelude.{ℕ, ◌+◌, Bool, List, [], ◌∷◌, Some, None, Option, nat_lt, slice_set}
+use Rattle.std.specs.Prelude.{ℕ, ◌+◌, Bool, List, [], ◌∷◌, nat_lt, slice_set}
 use Rattle.feeding.specs.Feeding.{all_fed, count_taken, InParts}
 use Rattle.colour.specs.declared.Palette.{Palette}
 use Rattle.colour.specs.Entries.{entry_of_bytes}
-use Rattle.palette_load.specs.declared.load.PaletteLoad.{PaletteLoad}
 
--- the palette as it then is, the entries loaded, and the byte that waits for its entry's second
+-- how far a load has come: the entries loaded, and the byte that waits for its entry's second
+pub record Load : Type 0 where
+  pub entries : ℕ
+  pub waiting : List ℕ
+
+-- and the palette as it then is
 pub record Loading : Type 0 where
   pub palette : Palette
   pub entries : ℕ
   pub waiting : List ℕ
 
-abbrev pub waits : Option ℕ → List ℕ
-waits None = []
-waits (Some b) = b ∷ []
-
-abbrev pub loading : Palette → PaletteLoad → Loading
-loading p l = record { palette = p; entries = l.entries; waiting = waits l.low }
+abbrev pub loading : Palette → Load → Loading
+loading p l = record { palette = p; entries = l.entries; waiting = l.waiting }
 
 -- a load has 64 entries
 abbrev pub unfinished : ℕ → Bool

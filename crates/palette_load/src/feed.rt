@@ -8,8 +8,7 @@ use colour::Palette;
 impl PaletteLoad {
     // A load of which no byte has come.
     pub fn new() -> PaletteLoad
-        ensures entries { result.entries ≡ 0 }
-        ensures low { Rattle.palette_load.specs.Loads.waits result.low ≡ [] }
+        ensures { result ≡ record { entries = 0; waiting = [] } }
     {
         PaletteLoad {
             entries: 0,

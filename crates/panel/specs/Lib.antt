@@ -1,2 +1,3 @@
 pub mod Registers
 pub mod State
+pub mod Calls

@@ -1,8 +1,9 @@
 -- A panel as plain values, and what each call answers and leaves.
-use Rattle.std.specs.Prelude.{ℕ, ◌/◌, ◌%◌, Bool, true, false, cond, ◌&&◌, List, length, replicate, Ok, Err, Result, ◌==◌, bit_and, bit_or, slice_index, slice_set}
+use Rattle.std.specs.Prelude.{ℕ, ◌/◌, ◌%◌, Bool, true, false, cond, ◌&&◌, List, [], length, replicate, Ok, Err, Result, ◌==◌, bit_and, bit_or, slice_index, slice_set}
 use Rattle.colour.specs.declared.Palette.{Palette}
+use Rattle.palette_load.specs.Loads.{Load, Loading, loading, unfinished, loaded_by, bytes_taken}
 use Rattle.job.specs.Works as job
-use Rattle.job.specs.Works.{Work, Clearing, cleared, declined, clearing, serves, awaits, runs, at_stage, run_stage}
+use Rattle.job.specs.Works.{Work, Clearing, cleared, declined, clearing, serves, awaits, runs, at_stage, run_stage, fed_stage}
 use Rattle.panel.specs.declared.activity.Activity.{Activity}
 use Rattle.panel.specs.declared.activity.Activity.TheVariants.{Idle, Drawing, Awaiting, PaletteLoad}
 use Rattle.panel.specs.declared.panel.Panel.{Panel}
@@ -30,7 +31,7 @@ abbrev pub busy : Activity → Bool
 busy Idle = false
 busy (Drawing _) = true
 busy (Awaiting _) = true
-busy PaletteLoad = true
+busy (PaletteLoad _) = true
 
 abbrev pub with_doing : State → Activity → State
 with_doing s d = record { memory = s.memory; registers = s.registers; palette = s.palette; doing = d }
@@ -71,12 +72,16 @@ started_in s (declined _ n) = Err n
 abbrev pub started : State → ℕ → ℕ → Result State ℕ
 started s r v = started_in (with_register s r v) (clearing (settings_of s.registers v) (length s.memory))
 
+-- a load of which no byte has come
+abbrev pub new_load : Load
+new_load = record { entries = 0; waiting = [] }
+
 abbrev pub written : State → ℕ → ℕ → Result State ℕ
 written s r v =
     cond (exists r)
     (cond (busy s.doing) (Err 2)
     (cond (starts r v) (started s r v)
-    (Ok (cond (opens r v) (with_doing (with_register s r v) PaletteLoad) (with_register s r v)))))
+    (Ok (cond (opens r v) (with_doing (with_register s r v) (PaletteLoad new_load)) (with_register s r v)))))
     (Err 1)
 
 -- 90h reads with bit 4 while an operation is under way
@@ -84,7 +89,7 @@ abbrev pub shown : Activity → ℕ → ℕ → ℕ
 shown Idle r v = v
 shown (Drawing _) r v = cond (r == 0x90) (bit_or v 0x10) v
 shown (Awaiting _) r v = cond (r == 0x90) (bit_or v 0x10) v
-shown PaletteLoad r v = v
+shown (PaletteLoad _) r v = v
 
 abbrev pub register_read : State → ℕ → Result ℕ ℕ
 register_read s r = cond (exists r) (Ok (shown s.doing r (slice_index s.registers r))) (Err 1)
@@ -93,7 +98,7 @@ abbrev pub run_answer : State → Activity → ℕ → Result ℕ ℕ
 run_answer s Idle n = Err 10
 run_answer s (Drawing w) n = job.run_answer w s.memory n
 run_answer s (Awaiting _) n = Err 10
-run_answer s PaletteLoad n = Err 10
+run_answer s (PaletteLoad _) n = Err 10
 
 -- an operation ends with its last pixel
 abbrev pub still_drawing : Work → Activity
@@ -111,14 +116,46 @@ abbrev pub run_after : State → Activity → ℕ → State
 run_after s Idle n = s
 run_after s (Drawing w) n = cond (serves w s.memory && runs w) (ran s w n) s
 run_after s (Awaiting _) n = s
-run_after s PaletteLoad n = s
+run_after s (PaletteLoad _) n = s
+
+-- an operation that the host serves awaits bytes up to its last pixel
+abbrev pub still_awaiting : Work → Activity
+still_awaiting w = cond (awaits w) (Awaiting w) Idle
+
+abbrev pub fed_in : State → Work → List ℕ → State
+fed_in s w xs = record {
+  memory = (fed_stage w s.palette s.memory xs).memory;
+  registers = s.registers;
+  palette = s.palette;
+  doing = still_awaiting (at_stage w (fed_stage w s.palette s.memory xs));
+}
+
+-- a palette load ends with its last entry
+abbrev pub still_loading : Loading → Activity
+still_loading l = cond (unfinished l.entries) (PaletteLoad (record { entries = l.entries; waiting = l.waiting })) Idle
+
+abbrev pub loaded_in : State → Loading → State
+loaded_in s l = record { memory = s.memory; registers = s.registers; palette = l.palette; doing = still_loading l }
+
+-- a burst answers the bytes taken and the pixels drawn; a palette load draws none
+abbrev pub burst_answer : State → Activity → List ℕ → Result (ℕ × ℕ) ℕ
+burst_answer s Idle xs = Err 9
+burst_answer s (Drawing _) xs = Err 9
+burst_answer s (Awaiting w) xs = job.feed_answer w s.palette s.memory xs
+burst_answer s (PaletteLoad l) xs = Ok (bytes_taken (loading s.palette l) xs, 0)
+
+abbrev pub burst_after : State → Activity → List ℕ → State
+burst_after s Idle xs = s
+burst_after s (Drawing _) xs = s
+burst_after s (Awaiting w) xs = cond (serves w s.memory && awaits w) (fed_in s w xs) s
+burst_after s (PaletteLoad l) xs = loaded_in s (loaded_by (loading s.palette l) xs)
 
 -- a stop answers the pixels drawn
 abbrev pub stop_answer : Activity → Result ℕ ℕ
 stop_answer Idle = Err 11
 stop_answer (Drawing w) = Ok w.drawn
 stop_answer (Awaiting w) = Ok w.drawn
-stop_answer PaletteLoad = Ok 0
+stop_answer (PaletteLoad _) = Ok 0
 
 -- and leaves nothing under way
 abbrev pub stopped : State → State

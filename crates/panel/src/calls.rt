@@ -11,6 +11,7 @@ use crate::registers::Registers;
 use colour::Palette;
 use job::{Begun, Draft};
 use memory::Memory;
+use palette_load::PaletteLoad;
 use refusal::Refusal;
 
 const BUSY: u8 = 0x5C;
@@ -96,7 +97,7 @@ impl<M: Memory> Panel<M> {
         }
         self.registers.set(register, stored_value(register, value));
         if register == PALETTE && value % 4 == 3 {
-            self.activity = Activity::PaletteLoad;
+            self.activity = Activity::PaletteLoad(PaletteLoad::new());
         }
         Ok(())
     }
@@ -136,7 +137,7 @@ impl<M: Memory> Panel<M> {
         let drawn = match &self.activity {
             Activity::Idle => return Err(Refusal::NothingUnderWay),
             Activity::Drawing(begun) | Activity::Awaiting(begun) => begun.drawn(),
-            Activity::PaletteLoad => 0,
+            Activity::PaletteLoad(_) => 0,
         };
         self.activity = Activity::Idle;
         Ok(drawn)

@@ -2,7 +2,9 @@
 #![tactic(auto)]
 
 mod activity;
+mod bursts;
 mod calls;
+mod make;
 mod panel;
 mod register;
 mod registers;

@@ -1,5 +1,5 @@
 #![tactic(auto)]
-// The calls of a panel as values, with the burst that is to come, and what each answers.
+// The calls of a panel as values, and what each answers.
 use refusal::Refusal;
 
 // Registers and addresses are any numbers. A burst borrows its bytes. The bench's `Command` is another type, since a line's burst owns them and its runs have 16 bits.

@@ -1,0 +1,4 @@
+pub mod Starting
+pub mod Playing
+pub mod Performing
+pub mod Setting

@@ -1,0 +1,4 @@
+pub mod Parts
+pub mod Bursts
+pub mod Runs
+pub mod Joins
