@@ -27,3 +27,18 @@ end_of s ls = fold line_after s (map command_of ls)
 pub record Replayed (s : State) (ls : List (List ℕ)) (before : List ℕ) (t : State) (written : List ℕ) : Type 0 where
   pub answers : written ≡ before ++ transcript s ls
   pub panel : t ≡ end_of s ls
+
+-- the first of the lines ls were obeyed and answered
+pub record AnsweredFirst (s : State) (ls : List (List ℕ)) (before written : List ℕ) : Type 0 where
+  pub first : List (List ℕ)
+  pub rest : List (List ℕ)
+  pub all : ls ≡ first ++ rest
+  pub answers : written ≡ before ++ transcript s first
+
+-- there was no room for an answer: the line after those that were answered was obeyed, and is the last
+pub record GaveUp (s : State) (ls : List (List ℕ)) (before : List ℕ) (t : State) (written : List ℕ) : Type 0 where
+  pub answered : AnsweredFirst s ls before written
+  pub last : List ℕ
+  pub others : List (List ℕ)
+  pub follow : answered.rest ≡ last ∷ others
+  pub panel : t ≡ end_of s (answered.first ++ last ∷ [])

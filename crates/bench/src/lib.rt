@@ -1,14 +1,14 @@
 // The bench: lines in, panel calls, lines out.
 #![tactic(auto)]
 
-ghost use Rattle.std.specs.Prelude.{◌≡◌, ◌==◌, position, ℕ, ◌<◌, ◌≤◌, List, [], ◌∷◌, ◌++◌, replicate, OnOk};
+ghost use Rattle.std.specs.Prelude.{◌≡◌, ◌==◌, position, ℕ, ◌<◌, ◌≤◌, List, [], ◌∷◌, ◌++◌, replicate, OnOk, OnErr};
 ghost use Rattle.std.specs.Iterator.{YieldsFirstRef, item_count};
 ghost use Rattle.panel.specs.State.{seen, fresh};
 ghost use Rattle.panel.specs.Calls.{answered, left_by};
 ghost use Rattle.bench_lines.specs.Commands.{call_of, command_of};
 ghost use Rattle.bench_lines.specs.Answers.{reply_of};
 ghost use Rattle.bench.specs.Replies.{printed, line_reply, line_after};
-ghost use Rattle.bench.specs.Scripts.{lines, transcript, Replayed};
+ghost use Rattle.bench.specs.Scripts.{lines, transcript, Replayed, AnsweredFirst, GaveUp};
 
 use bench_lines::{Answer, Command};
 use memory::{ByteBoard, Memory};
@@ -78,13 +78,15 @@ impl<'a> Iterator for Lines<'a> {
     }
 }
 
-// Obeys every line of an input and writes its answers. It fails only for want of memory for them.
+// Obeys every line of an input and writes its answers. It fails only for want of memory for them, and then has obeyed the lines up to
+// the one whose answer found no room.
 pub fn replay<M: Memory>(
     panel: &mut Panel<M>,
     input: &[u8],
     out: &mut Vec<u8>,
 ) -> Result<(), AllocError>
-    ensures { OnOk result (Replayed (seen M.bytes panel.old) (lines input.now) out.old.items (seen M.bytes panel.new) out.new.items) }
+    ensures done { OnOk result (Replayed (seen M.bytes panel.old) (lines input.now) out.old.items (seen M.bytes panel.new) out.new.items) }
+    ensures gave_up { OnErr result (GaveUp (seen M.bytes panel.old) (lines input.now) out.old.items (seen M.bytes panel.new) out.new.items) }
 {
     for line in Lines(input) {
         respond(panel, line).write_to(out)?;
@@ -95,9 +97,10 @@ pub fn replay<M: Memory>(
 // The bytes of display memory on the bench.
 const MEMORY: usize = 4096;
 
-// What the program does: a new panel over 4,096 zero bytes obeys the input.
+// What the program does: a new panel over 4,096 zero bytes obeys the input. It fails only for want of memory, as `replay` does.
 pub fn run(input: &[u8], out: &mut Vec<u8>) -> Result<(), AllocError>
-    ensures { OnOk result (out.new.items ≡ out.old.items ++ transcript (fresh (replicate 4096 0)) (lines input.now)) }
+    ensures done { OnOk result (out.new.items ≡ out.old.items ++ transcript (fresh (replicate 4096 0)) (lines input.now)) }
+    ensures gave_up { OnErr result (AnsweredFirst (fresh (replicate 4096 0)) (lines input.now) out.old.items out.new.items) }
 {
     let mut block = [0u8; MEMORY];
     let mut panel = Panel::new(ByteBoard::new(&mut block));

@@ -1,5 +1,5 @@
 // An answer line: "ok" with what was answered, "no" with a refusal's number, or "??".
-ghost use Rattle.std.specs.Prelude.{◌≡◌, ◌++◌, Some, OnOk};
+ghost use Rattle.std.specs.Prelude.{◌≡◌, ◌++◌, if◌then◌else◌, is_ok, Some};
 ghost use Rattle.bench_lines.specs.Answers.{reply_of, reply_text, reply_line};
 
 use refusal::Refusal;
@@ -38,9 +38,9 @@ impl fmt::Display for Answer {
 }
 
 impl Answer {
-    // Writes the answer's line, its line feed with it.
+    // Writes the answer's line, its line feed with it. Where memory is wanting, nothing is written.
     pub fn write_to(&self, out: &mut Vec<u8>) -> Result<(), AllocError>
-        ensures { OnOk result (out.new.items ≡ out.old.items ++ reply_line (reply_of self.now)) }
+        ensures { out.new.items ≡ (if is_ok result then out.old.items ++ reply_line (reply_of self.now) else out.old.items) }
     {
         let line = format!(in *out.allocator(); "{self}\n")?;
         out.extend_from_slice(line.as_bytes())

@@ -99,7 +99,8 @@ impl Cell for u16 {
 }
 
 // A lent block of cells, of which at most the first 16,777,216 bytes are display memory. Boards and layers have no model: they hand
-// out the block or the memory itself, which the bytes that they show do not tell.
+// out the block or the memory itself, which the bytes that they show do not tell. A board keeps the block that it was lent (the clauses
+// `lent`), so that whoever lent it knows what it holds once the board is let go.
 #[derive(Drop)]
 pub struct Board<'a, C: Cell> {
     block: &'a mut [C],
@@ -111,14 +112,16 @@ pub type WordBoard<'a> = Board<'a, u16>;
 
 impl<'a, C: Cell> Board<'a, C> {
     pub fn new(block: &'a mut [C]) -> Board<'a, C>
-        ensures { result.block.now ≡ block.old }
+        ensures lent { result.block.ghost_name ≡ block.entry.ghost_name }
+        ensures holds { result.block.now ≡ block.old }
     {
         Board { block }
     }
 
     // Hands the block back as it then is.
     pub fn into_block(self) -> &'a mut [C]
-        ensures { result.now ≡ self.entry.block.now }
+        ensures lent { result.ghost_name ≡ self.entry.block.ghost_name }
+        ensures holds { result.now ≡ self.entry.block.now }
     {
         let Board { block } = self;
         block
@@ -155,6 +158,7 @@ impl<C: Cell> Memory for Board<'_, C> {
     fn put(&mut self, address: u32, value: u8) -> Result<(), Refusal>
         ensures answer { numbered result ≡ put_at (of_cells C.BYTES C.byte self.old.block.now) address }
         ensures after { of_cells C.BYTES C.byte self.new.block.now ≡ slice_set (of_cells C.BYTES C.byte self.old.block.now) address value }
+        ensures lent { self.new.block.ghost_name ≡ self.old.block.ghost_name }
         ensures rest { drop (16777216 / C.BYTES) self.new.block.now ≡ drop (16777216 / C.BYTES) self.old.block.now }
     {
         if address >= self.size() {

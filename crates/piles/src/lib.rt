@@ -1,8 +1,9 @@
-// Two piles of layers over the two boards, and what a put through each leaves.
+// What a put leaves: through two piles of layers over the two boards, and through a board alone.
 #![tactic(auto)]
 
-ghost use Rattle.std.specs.Prelude.{◌≡◌, ◌+◌, if◌then◌else◌, Ok, Err, slice_set};
+ghost use Rattle.std.specs.Prelude.{◌≡◌, ◌+◌, if◌then◌else◌, Ok, Err, drop, slice_set};
 ghost use Rattle.refusal.specs.Numbers.{numbered};
+ghost use Rattle.memory.specs.Bytes.{put_at};
 ghost use Rattle.memory.specs.Boards.{of_bytes, of_words};
 ghost use Rattle.layers.specs.Part.{part};
 ghost use Rattle.piles.specs.Reach.{has};
@@ -78,6 +79,16 @@ pub fn put_stretched_words<'a>(
         waiting,
         stretch,
     }
+}
+
+// A put to a block of bytes, by a board that is let go. The block keeps what was put, and what it has past display memory is as it was.
+pub fn put_byte(block: &mut [u8], address: u32, value: u8) -> Result<(), Refusal>
+    ensures answer { numbered result ≡ put_at (of_bytes block.old) address }
+    ensures block { of_bytes block.new ≡ slice_set (of_bytes block.old) address value }
+    ensures rest { drop 16777216 block.new ≡ drop 16777216 block.old }
+{
+    let mut board = ByteBoard::new(block);
+    board.put(address, value)
 }
 
 #[cfg(test)]

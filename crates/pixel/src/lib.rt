@@ -51,7 +51,7 @@ pub fn keyed(value: u32, key: u32, colour: Colour) -> Option<Colour>
     (value != key).then_some(colour)
 }
 
-// The colour of a bit of a pattern.
+// The colour of a bit of a one-bit picture.
 pub fn expanded(bit: u32, foreground: Colour, background: Colour) -> Option<Colour>
     ensures { result ≡ expanded bit foreground background }
 {

@@ -56,7 +56,7 @@ impl<F: Canvas> PixelRule for Key<F> {
     }
 }
 
-// A pattern of one bit a pixel, in two colours.
+// A one-bit picture in two colours.
 #[derive(Clone, Copy)]
 pub struct Expand {
     pub foreground: Colour,
@@ -71,7 +71,7 @@ impl PixelRule for Expand {
     }
 }
 
-// A pattern of one bit a pixel, whose zeros are transparent. A rule of its own and no Option of a background, as the chip has an
+// A one-bit picture whose zeros are transparent. A rule of its own and no Option of a background, as the chip has an
 // operation for each.
 #[derive(Clone, Copy)]
 pub struct ExpandOver {

@@ -4,7 +4,7 @@ ghost use Rattle.window.specs.Limits.{within};
 
 use crate::area::Area;
 
-// The largest image width and rectangle side of our panels.
+// The largest image width and rectangle side, for panels and jobs.
 pub const SIDE_LIMIT: u16 = 8191;
 
 // Clauses see its numbers by `area_of`. A ghost field and no model: where a value with a model stands inside an enum, as it would in `Source`, another crate that keeps

@@ -1,8 +1,15 @@
-use Rattle.std.proofs.Common.{ap, lit≤}
-use Rattle.std.proofs.lemmas.Result.{IfOk-weaker}
+use Rattle.std.proofs.Common.{◌≡◌, replicate, ap, ◌∙◌, lit≤}
+use Rattle.std.proofs.lemmas.Result.{on_ok_weaker, on_err_weaker}
+use Rattle.panel.specs.State.{fresh}
 use Rattle.memory.specs.Boards.{of_bytes}
 use Rattle.memory.proofs.Boards.{bytes_zero}
 use Rattle.bench.proofs.run.Goals as goal
 
 pub returns : goal.returns
-returns c = IfOk-weaker c.replay.result _ _ (λ _ done. cc (ap of_bytes c.new.ensures, bytes_zero 4096 (lit≤ tt))) c.replay.ensures
+returns c =
+    let zero : of_bytes c.new.result.block.now ≡ replicate 4096 0 = ap of_bytes c.new.ensures.holds ∙ bytes_zero 4096 (lit≤ tt) in
+    let begun = c.new-panel.ensures ∙ ap fresh zero in
+    record {
+      done = on_ok_weaker c.replay.result (λ r. rw begun at r.answers) c.replay.ensures.done;
+      gave_up = on_err_weaker c.replay.result (λ r. rw begun at r.answered) c.replay.ensures.gave_up;
+    }

@@ -22,6 +22,6 @@ returns c =
       answer = c.put-answer.ensures.answer ∙ ap (λ p. put_at p a) shown ∙ put_has m start most a;
       seen = c.read-seen.ensures ∙ ap (λ p. read_at p a) (c.put-answer.ensures.after ∙ ap (λ p. set p a v) shown) ∙ read_has m start most a v;
       block =
-          ap of_bytes c.into_block-block.ensures ∙ c.into_below-2.ensures ∙ ap (λ q. laid (of_bytes q.below.block.now) q.pending) c.into_below.ensures
+          ap of_bytes c.into_block-block.ensures.holds ∙ c.into_below-2.ensures ∙ ap (λ q. laid (of_bytes q.below.block.now) q.pending) c.into_below.ensures
           ∙ c.put-answer.ensures.under ∙ under ∙ under_has m start most a v;
     }

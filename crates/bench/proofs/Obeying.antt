@@ -1,0 +1,57 @@
+-- Lines that are obeyed and answered one after another.
+use Rattle.std.proofs.Common.{◌≡◌, ℕ, List, [], ◌∷◌, ◌++◌, map, Result, Ok, Err, OnErr, refl, sym, ap, ◌∙◌, append_assoc, append-nil}
+use Rattle.std.specs.List.{fold}
+use Rattle.std.proofs.lemmas.List.{map-append}
+use Rattle.std.proofs.lemmas.List.Sums.{fold-append}
+use Rattle.panel.specs.State.{State}
+use Rattle.bench_lines.specs.Answers.{reply_line}
+use Rattle.bench_lines.specs.Commands.{command_of}
+use Rattle.bench.specs.Replies.{line_reply, line_after}
+use Rattle.bench.specs.Scripts.{transcript, end_of, Replayed, GaveUp}
+
+-- of the lines ls, all but `left` were obeyed and answered
+pub record Underway (s : State) (ls : List (List ℕ)) (before : List ℕ) (t : State) (written : List ℕ) (left : List (List ℕ)) : Type 0 where
+  pub done : List (List ℕ)
+  pub all : ls ≡ done ++ left
+  pub so_far : Replayed s done before t written
+
+end_more : (s : State) (ls : List (List ℕ)) (l : List ℕ) → end_of s (ls ++ l ∷ []) ≡ line_after (end_of s ls) (command_of l)
+end_more s ls l = ap (fold line_after s) (map-append command_of ls (l ∷ [])) ∙ fold-append line_after s (map command_of ls) (command_of l ∷ [])
+
+transcript_more : (s : State) (ls : List (List ℕ)) (l : List ℕ)
+    → transcript s (ls ++ l ∷ []) ≡ transcript s ls ++ reply_line (line_reply (end_of s ls) (command_of l))
+transcript_more s [] l = append-nil (reply_line (line_reply s (command_of l)))
+transcript_more s (x ∷ xs) l =
+    let answer = reply_line (line_reply s (command_of x)) in
+    let next = line_after s (command_of x) in
+    ap (λ w. answer ++ w) (transcript_more next xs l)
+    ∙ sym (append_assoc answer (transcript next xs) (reply_line (line_reply (end_of next xs) (command_of l))))
+
+-- what holds in any case holds of an error
+pub on_err : {T E P : Type 0} (r : Result T E) → P → OnErr r P
+on_err (Ok _) p = tt
+on_err (Err _) p = p
+
+module _ {s : State} {ls : List (List ℕ)} {before : List ℕ} {t : State} {written : List ℕ} where
+  pub obeyed : (l : List ℕ) (left : List (List ℕ)) → Underway s ls before t written (l ∷ left)
+      → Underway s ls before (line_after t (command_of l)) (written ++ reply_line (line_reply t (command_of l))) left
+  obeyed l left u =
+      let answer = reply_line (line_reply (end_of s u.done) (command_of l)) in
+      record {
+        done = u.done ++ l ∷ [];
+        all = u.all ∙ sym (append_assoc u.done (l ∷ []) left);
+        so_far = record {
+          answers =
+              cc (u.so_far.answers, u.so_far.panel, append_assoc before (transcript s u.done) answer, transcript_more s u.done l);
+          panel = ap (λ p. line_after p (command_of l)) u.so_far.panel ∙ sym (end_more s u.done l);
+        };
+      }
+
+  pub stopped : (l : List ℕ) (left : List (List ℕ)) → Underway s ls before t written (l ∷ left) → GaveUp s ls before (line_after t (command_of l)) written
+  stopped l left u = record {
+    answered = record { first = u.done; rest = l ∷ left; all = u.all; answers = u.so_far.answers };
+    last = l;
+    others = left;
+    follow = refl;
+    panel = ap (λ p. line_after p (command_of l)) u.so_far.panel ∙ sym (end_more s u.done l);
+  }
