@@ -79,6 +79,3 @@ pub fn put_stretched_words<'a>(
         stretch,
     }
 }
-
-#[cfg(test)]
-mod tests;

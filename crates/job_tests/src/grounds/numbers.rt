@@ -1,5 +1,5 @@
 // Refusals 3 to 6: the numbers of an operation, a depth, a kind, a start bit and a level.
-use crate::settings::ground;
+use super::settings::ground;
 use job::Settings;
 use samples::{settings, surface};
 

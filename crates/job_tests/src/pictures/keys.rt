@@ -1,5 +1,5 @@
 // Operations 4 and 5.
-use crate::jobs::{check_drawn, check_fed, settings};
+use super::jobs::{check_drawn, check_fed, settings};
 use job::Settings;
 use samples::{rgb, surface};
 use std::test::Fail;

@@ -1,5 +1,5 @@
 // Operations 6 and 7.
-use crate::jobs::{check_bytes, settings};
+use super::jobs::{check_bytes, settings};
 use colour::Palette;
 use job::Settings;
 use memory::{ByteBoard, Memory};

@@ -1,5 +1,5 @@
 // Operations 0 and 2.
-use crate::jobs::{check_drawn, check_fed, settings};
+use super::jobs::{check_drawn, check_fed, settings};
 use colour::Palette;
 use job::{Settings, Surface};
 use memory::{ByteBoard, WordBoard};

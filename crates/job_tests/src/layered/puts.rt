@@ -1,5 +1,8 @@
-// Values worked by hand.
-use super::*;
+// Puts and reads through a queue, a stretch, and piles of both.
+use layers::{Stretch, WriteQueue};
+use memory::{ByteBoard, Memory, WordBoard};
+use piles::{BytePut, WordPut, put_queued_bytes, put_stretched_words};
+use refusal::Refusal;
 
 // What a read or a put past the end answers.
 const PAST: Refusal = Refusal::NoSuchAddress;

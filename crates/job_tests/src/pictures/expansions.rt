@@ -1,5 +1,5 @@
 // Operations 8, 9, 14 and 15.
-use crate::jobs::{check_drawn, check_fed, settings};
+use super::jobs::{check_drawn, check_fed, settings};
 use job::Settings;
 use samples::{rgb, surface};
 use std::test::Fail;

@@ -1,5 +1,5 @@
 // Operations 10 and 11.
-use crate::jobs::{check_bytes, check_drawn, check_fed, settings};
+use super::jobs::{check_bytes, check_drawn, check_fed, settings};
 use colour::Palette;
 use job::Settings;
 use memory::{ByteBoard, WordBoard};

@@ -1,5 +1,5 @@
 // Operation 12.
-use crate::jobs::{check_drawn, settings};
+use super::jobs::{check_drawn, settings};
 use job::{Settings, Surface};
 use samples::{rgb, surface};
 use std::test::Fail;

@@ -1,5 +1,5 @@
 // Where several grounds hold, the lowest number is answered.
-use crate::settings::ground_over;
+use super::settings::ground_over;
 use job::{Settings, Surface};
 use samples::{settings, surface};
 

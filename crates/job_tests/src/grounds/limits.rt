@@ -1,5 +1,5 @@
 // Refusals 7 and 8: limits of windows, and the end of memory.
-use crate::settings::{ground, ground_over};
+use super::settings::{ground, ground_over};
 use job::{Settings, Surface};
 use samples::{settings, surface};
 
