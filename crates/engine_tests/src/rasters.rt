@@ -38,11 +38,15 @@ fn all_pairs_of_bits(rt: HostRuntime) {
 #[test]
 fn some_bytes(rt: HostRuntime) {
     for code in 0..16u8 {
-        assert_eq!(rt; raster_channel(code, 0xF0, 0xCC), formula(code, 0xF0, 0xCC));
-        assert_eq!(rt; raster_channel(code, 0x0F, 0x3C), formula(code, 0x0F, 0x3C));
-        assert_eq!(rt; raster_channel(code, 0x00, 0xA5), formula(code, 0x00, 0xA5));
-        assert_eq!(rt; raster_channel(code, 0xFF, 0xA5), formula(code, 0xFF, 0xA5));
-        assert_eq!(rt; raster_channel(code, 0x96, 0x69), formula(code, 0x96, 0x69));
+        for (s0, s1) in [
+            (0xF0u8, 0xCCu8),
+            (0x0F, 0x3C),
+            (0x00, 0xA5),
+            (0xFF, 0xA5),
+            (0x96, 0x69),
+        ] {
+            assert_eq!(rt; raster_channel(code, s0, s1), formula(code, s0, s1));
+        }
     }
 }
 
@@ -50,14 +54,18 @@ fn some_bytes(rt: HostRuntime) {
 // gives 3Ch, and rule 11, 1011, gives CFh. The bits of a rule above the lowest four do not count.
 #[test]
 fn every_pair_twice(rt: HostRuntime) {
-    assert_eq!(rt; raster_channel(0, 0xF0, 0xCC), 0x00);
-    assert_eq!(rt; raster_channel(1, 0xF0, 0xCC), 0x03);
-    assert_eq!(rt; raster_channel(2, 0xF0, 0xCC), 0x0C);
-    assert_eq!(rt; raster_channel(4, 0xF0, 0xCC), 0x30);
-    assert_eq!(rt; raster_channel(8, 0xF0, 0xCC), 0xC0);
-    assert_eq!(rt; raster_channel(6, 0xF0, 0xCC), 0x3C);
-    assert_eq!(rt; raster_channel(11, 0xF0, 0xCC), 0xCF);
-    assert_eq!(rt; raster_channel(0xF6, 0xF0, 0xCC), 0x3C);
+    for (code, byte) in [
+        (0u8, 0x00u8),
+        (1, 0x03),
+        (2, 0x0C),
+        (4, 0x30),
+        (8, 0xC0),
+        (6, 0x3C),
+        (11, 0xCF),
+        (0xF6, 0x3C),
+    ] {
+        assert_eq!(rt; raster_channel(code, 0xF0, 0xCC), byte);
+    }
 }
 
 // Red, green and blue each go by the formula, and by no other channel.

@@ -1,7 +1,7 @@
 // Refusals 8, 9 and 10 of a job that was begun.
 use colour::Palette;
-use job::Settings;
-use memory::ByteBoard;
+use job::{Begun, Settings};
+use memory::{ByteBoard, Memory};
 use refusal::Refusal;
 use samples::{begin, rgb, settings, surface};
 use std::test::Fail;
@@ -24,25 +24,37 @@ fn host() -> Settings {
     }
 }
 
+// Runs a job over a memory.
+fn run<M: Memory>(begun: &mut Begun, memory: &mut M, pixels: u32) -> Result<u32, Refusal> {
+    begun.run(memory, &Palette::new(), pixels)
+}
+
+// Feeds a job over a memory.
+fn feed<M: Memory>(
+    begun: &mut Begun,
+    memory: &mut M,
+    bytes: &[u8],
+) -> Result<(usize, u32), Refusal> {
+    begun.feed(memory, &Palette::new(), bytes)
+}
+
 // 9 and 10: a fill awaits no byte, and runs until both its pixels are drawn, also where the run is of none.
 #[test]
 fn edges_of_a_run(rt: HostRuntime) -> Result<(), Fail> {
     let mut block = [7u8; 3];
     let mut board = ByteBoard::new(&mut block);
-    let palette = Palette::new();
     let mut begun = begin(&board, fill())?;
-    assert!(rt; begun.runs() && !begun.awaits());
-    assert_eq!(rt;
-        begun.feed(&mut board, &palette, &[1]),
-        Err(Refusal::NoByteAwaited)
-    );
-    assert_eq!(rt; begun.run(&mut board, &palette, 0), Ok(0));
-    assert_eq!(rt; begun.run(&mut board, &palette, 2), Ok(2));
-    assert!(rt; !begun.runs());
-    assert_eq!(rt;
-        begun.run(&mut board, &palette, 0),
-        Err(Refusal::NothingToRun)
-    );
+    let before = (begun.runs(), begun.awaits());
+    let fed = feed(&mut begun, &mut board, &[1]);
+    let runs = [
+        run(&mut begun, &mut board, 0),
+        run(&mut begun, &mut board, 2),
+    ];
+    let after = (begun.runs(), run(&mut begun, &mut board, 0));
+    assert_eq!(rt; before, (true, false));
+    assert_eq!(rt; fed, Err(Refusal::NoByteAwaited));
+    assert_eq!(rt; runs, [Ok(0), Ok(2)]);
+    assert_eq!(rt; after, (false, Err(Refusal::NothingToRun)));
     assert_eq!(rt; block, [0xFF, 0xFF, 7]);
     Ok(())
 }
@@ -53,20 +65,18 @@ fn edges_of_a_run(rt: HostRuntime) -> Result<(), Fail> {
 fn edges_of_a_feed(rt: HostRuntime) -> Result<(), Fail> {
     let mut block = [7u8; 3];
     let mut board = ByteBoard::new(&mut block);
-    let palette = Palette::new();
     let mut begun = begin(&board, host())?;
-    assert!(rt; begun.awaits() && !begun.runs());
-    assert_eq!(rt;
-        begun.run(&mut board, &palette, 1),
-        Err(Refusal::NothingToRun)
-    );
-    assert_eq!(rt; begun.feed(&mut board, &palette, &[0x1F]), Ok((1, 0)));
-    assert_eq!(rt; begun.feed(&mut board, &palette, &[0, 9]), Ok((1, 1)));
-    assert!(rt; !begun.awaits());
-    assert_eq!(rt;
-        begun.feed(&mut board, &palette, &[]),
-        Err(Refusal::NoByteAwaited)
-    );
+    let before = (begun.awaits(), begun.runs());
+    let ran = run(&mut begun, &mut board, 1);
+    let feeds = [
+        feed(&mut begun, &mut board, &[0x1F]),
+        feed(&mut begun, &mut board, &[0, 9]),
+    ];
+    let after = (begun.awaits(), feed(&mut begun, &mut board, &[]));
+    assert_eq!(rt; before, (true, false));
+    assert_eq!(rt; ran, Err(Refusal::NothingToRun));
+    assert_eq!(rt; feeds, [Ok((1, 0)), Ok((1, 1))]);
+    assert_eq!(rt; after, (false, Err(Refusal::NoByteAwaited)));
     assert_eq!(rt; block, [3, 7, 7]);
     Ok(())
 }
@@ -79,28 +89,21 @@ fn fill_over_less(rt: HostRuntime) -> Result<(), Fail> {
     let mut board = ByteBoard::new(&mut block);
     let mut less = [5u8; 2];
     let mut small = ByteBoard::new(&mut less);
-    let palette = Palette::new();
     let mut begun = begin(&board, fill())?;
     let declined = [
-        begun.run(&mut small, &palette, 2),
-        begun.run(&mut small, &palette, 0),
+        run(&mut begun, &mut small, 2),
+        run(&mut begun, &mut small, 0),
     ];
-    assert_eq!(rt;
-        declined,
-        [Err(Refusal::PastMemory), Err(Refusal::PastMemory)]
-    );
-    assert_eq!(rt;
-        begun.feed(&mut small, &palette, &[1]),
-        Err(Refusal::PastMemory)
-    );
-    assert_eq!(rt; begun.drawn(), 0);
-    assert_eq!(rt; begun.run(&mut board, &palette, 2), Ok(2));
-    assert_eq!(rt;
-        begun.run(&mut small, &palette, 2),
-        Err(Refusal::PastMemory)
-    );
-    assert_eq!(rt; less, [5, 5]);
-    assert_eq!(rt; block, [0xFF, 0xFF, 7]);
+    let fed = feed(&mut begun, &mut small, &[1]);
+    let drawn = begun.drawn();
+    let runs = [
+        run(&mut begun, &mut board, 2),
+        run(&mut begun, &mut small, 2),
+    ];
+    assert_eq!(rt; declined, [Err(Refusal::PastMemory); 2]);
+    assert_eq!(rt; (fed, drawn), (Err(Refusal::PastMemory), 0));
+    assert_eq!(rt; runs, [Ok(2), Err(Refusal::PastMemory)]);
+    assert_eq!(rt; (less, block), ([5, 5], [0xFF, 0xFF, 7]));
     Ok(())
 }
 
@@ -111,24 +114,20 @@ fn host_over_less(rt: HostRuntime) -> Result<(), Fail> {
     let mut board = ByteBoard::new(&mut block);
     let mut less = [5u8; 2];
     let mut small = ByteBoard::new(&mut less);
-    let palette = Palette::new();
     let mut begun = begin(&board, host())?;
-    assert_eq!(rt; begun.feed(&mut board, &palette, &[0x1F]), Ok((1, 0)));
-    assert_eq!(rt;
-        begun.feed(&mut small, &palette, &[0xF8]),
-        Err(Refusal::PastMemory)
-    );
-    assert_eq!(rt;
-        begun.run(&mut small, &palette, 1),
-        Err(Refusal::PastMemory)
-    );
-    assert_eq!(rt; begun.feed(&mut board, &palette, &[0]), Ok((1, 1)));
-    assert_eq!(rt;
-        begun.feed(&mut small, &palette, &[0]),
-        Err(Refusal::PastMemory)
-    );
-    assert_eq!(rt; less, [5, 5]);
-    assert_eq!(rt; block, [3, 7, 7]);
+    let first = [
+        feed(&mut begun, &mut board, &[0x1F]),
+        feed(&mut begun, &mut small, &[0xF8]),
+    ];
+    let ran = run(&mut begun, &mut small, 1);
+    let last = [
+        feed(&mut begun, &mut board, &[0]),
+        feed(&mut begun, &mut small, &[0]),
+    ];
+    assert_eq!(rt; first, [Ok((1, 0)), Err(Refusal::PastMemory)]);
+    assert_eq!(rt; ran, Err(Refusal::PastMemory));
+    assert_eq!(rt; last, [Ok((1, 1)), Err(Refusal::PastMemory)]);
+    assert_eq!(rt; (less, block), ([5, 5], [3, 7, 7]));
     Ok(())
 }
 
@@ -140,8 +139,8 @@ fn fill_over_more(rt: HostRuntime) -> Result<(), Fail> {
     let mut more = [5u8; 3];
     let mut large = ByteBoard::new(&mut more);
     let mut begun = begin(&board, fill())?;
-    assert_eq!(rt; begun.run(&mut large, &Palette::new(), 2), Ok(2));
-    assert_eq!(rt; block, [7, 7]);
-    assert_eq!(rt; more, [0xFF, 0xFF, 5]);
+    let ran = run(&mut begun, &mut large, 2);
+    assert_eq!(rt; ran, Ok(2));
+    assert_eq!(rt; (block, more), ([7, 7], [0xFF, 0xFF, 5]));
     Ok(())
 }

@@ -3,6 +3,7 @@ use layers::{Stretch, WriteQueue};
 use memory::{ByteBoard, Memory, WordBoard};
 use piles::{BytePut, WordPut, put_queued_bytes, put_stretched_words};
 use refusal::Refusal;
+use std::ops::Range;
 
 // What a read or a put past the end answers.
 const PAST: Refusal = Refusal::NoSuchAddress;
@@ -11,15 +12,22 @@ fn look<M: Memory>(memory: &M, first: u32, second: u32, third: u32) -> [Result<u
     [memory.read(first), memory.read(second), memory.read(third)]
 }
 
-// What lies below two addresses.
-fn below<M: Memory>(queue: &WriteQueue<M>, first: u32, second: u32) -> [Result<u8, Refusal>; 2] {
-    [queue.read_below(first), queue.read_below(second)]
+// How many bytes wait, and what lies below two addresses.
+fn below<M: Memory>(
+    queue: &WriteQueue<M>,
+    first: u32,
+    second: u32,
+) -> (u8, [Result<u8, Refusal>; 2]) {
+    (
+        queue.waiting_count(),
+        [queue.read_below(first), queue.read_below(second)],
+    )
 }
 
-// Puts `value` at `start`, one more at the next address, and so on.
-fn put_all<M: Memory>(memory: &mut M, start: u16, end: u16, value: u8) {
-    for address in start..end {
-        let _ = memory.put(address as u32, value.wrapping_add((address % 256) as u8));
+// Puts at each address its number, more by so much.
+fn put_all<M: Memory>(memory: &mut M, addresses: Range<u8>, more: u8) {
+    for address in addresses {
+        let _ = memory.put(address as u32, address.wrapping_add(more));
     }
 }
 
@@ -28,20 +36,21 @@ fn put_all<M: Memory>(memory: &mut M, start: u16, end: u16, value: u8) {
 fn oldest_goes_below(rt: HostRuntime) {
     let mut block = [7u8; 20];
     let mut queue = WriteQueue::new(ByteBoard::new(&mut block));
-    put_all(&mut queue, 0, 17, 100);
-    let waiting = queue.waiting_count();
+    put_all(&mut queue, 0..17, 100);
     let under = below(&queue, 0, 1);
     let shown = look(&queue, 0, 1, 16);
     let past = queue.put(20, 1);
-    let still_waiting = queue.waiting_count();
     let still = below(&queue, 16, 20);
-    let board = queue.into_below();
-    assert_eq!(rt; [waiting, still_waiting], [16, 16]);
-    assert_eq!(rt; under, [Ok(100), Ok(7)]);
-    assert_eq!(rt; shown, [Ok(100), Ok(101), Ok(116)]);
+    let taken_apart = look(&queue.into_below(), 1, 16, 17);
     assert_eq!(rt; past, Err(PAST));
-    assert_eq!(rt; still, [Ok(7), Err(PAST)]);
-    assert_eq!(rt; look(&board, 1, 16, 17), [Ok(101), Ok(116), Ok(7)]);
+    assert_eq!(rt;
+        [under, still],
+        [(16, [Ok(100), Ok(7)]), (16, [Ok(7), Err(PAST)])]
+    );
+    assert_eq!(rt;
+        [shown, taken_apart],
+        [[Ok(100), Ok(101), Ok(116)], [Ok(101), Ok(116), Ok(7)]]
+    );
 }
 
 // A put to an address that waits keeps its place: address 5 stays the oldest, and goes below with its later value.
@@ -49,51 +58,59 @@ fn oldest_goes_below(rt: HostRuntime) {
 fn waiting_address_keeps_its_place(rt: HostRuntime) {
     let mut block = [0u8; 40];
     let mut queue = WriteQueue::new(ByteBoard::new(&mut block));
-    let _ = queue.put(5, 1);
-    let _ = queue.put(6, 2);
-    let _ = queue.put(5, 3);
-    let two_wait = queue.waiting_count();
+    for (address, value) in [(5u32, 1u8), (6, 2), (5, 3)] {
+        let _ = queue.put(address, value);
+    }
     let two = below(&queue, 5, 6);
-    put_all(&mut queue, 10, 25, 0);
-    let all_wait = queue.waiting_count();
+    put_all(&mut queue, 10..25, 0);
     let full = below(&queue, 5, 6);
     queue.drain();
-    let none_wait = queue.waiting_count();
     let drained = below(&queue, 6, 24);
     let _ = queue.into_below();
-    assert_eq!(rt; [two_wait, all_wait, none_wait], [2, 16, 0]);
-    assert_eq!(rt; two, [Ok(0), Ok(0)]);
-    assert_eq!(rt; full, [Ok(3), Ok(0)]);
-    assert_eq!(rt; drained, [Ok(2), Ok(24)]);
+    assert_eq!(rt;
+        [two, full, drained],
+        [
+            (2, [Ok(0), Ok(0)]),
+            (16, [Ok(3), Ok(0)]),
+            (0, [Ok(2), Ok(24)])
+        ]
+    );
 }
 
 #[test]
 fn stretch_past_the_end(rt: HostRuntime) {
     let mut block = [1u8, 2, 3, 4, 5, 6, 7, 8, 9, 10];
     let mut stretch = Stretch::new(ByteBoard::new(&mut block), 8, 5);
-    assert_eq!(rt; stretch.size(), 2);
-    assert_eq!(rt; look(&stretch, 0, 1, 2), [Ok(9), Ok(10), Err(PAST)]);
+    let size = stretch.size();
+    let before = look(&stretch, 0, 1, 2);
+    let puts = [stretch.put(2, 77), stretch.put(1, 77)];
+    let after = look(&stretch.into_below(), 7, 8, 9);
+    assert_eq!(rt; (size, puts), (2, [Err(PAST), Ok(())]));
     assert_eq!(rt;
-        [stretch.put(2, 77), stretch.put(1, 77)],
-        [Err(PAST), Ok(())]
+        [before, after],
+        [[Ok(9), Ok(10), Err(PAST)], [Ok(8), Ok(9), Ok(77)]]
     );
-    let board = stretch.into_below();
-    assert_eq!(rt; look(&board, 7, 8, 9), [Ok(8), Ok(9), Ok(77)]);
 }
 
 #[test]
 fn stretch_from_past_the_end(rt: HostRuntime) {
     let mut block = [1u8, 2, 3];
-    let at_end = Stretch::new(ByteBoard::new(&mut block), 3, 5);
-    assert_eq!(rt; at_end.size(), 0);
-    let mut past = Stretch::new(at_end.into_below(), 4, 5);
-    assert_eq!(rt; past.size(), 0);
-    assert_eq!(rt; past.put(0, 9), Err(PAST));
-    let all = Stretch::new(past.into_below(), 0, 4_294_967_295);
-    assert_eq!(rt; all.size(), 3);
-    let one = Stretch::new(all.into_below(), 1, 1);
-    assert_eq!(rt; one.size(), 1);
-    assert_eq!(rt; look(&one, 0, 1, 2), [Ok(2), Err(PAST), Err(PAST)]);
+    for (start, length, size) in [
+        (3u32, 5u32, 0u32),
+        (4, 5, 0),
+        (0, 4_294_967_295, 3),
+        (1, 1, 1),
+    ] {
+        assert_eq!(rt;
+            Stretch::new(ByteBoard::new(&mut block), start, length).size(),
+            size
+        );
+    }
+    let past = Stretch::new(ByteBoard::new(&mut block), 4, 5).put(0, 9);
+    let one = Stretch::new(ByteBoard::new(&mut block), 1, 1);
+    let shown = look(&one, 0, 1, 2);
+    assert_eq!(rt; past, Err(PAST));
+    assert_eq!(rt; shown, [Ok(2), Err(PAST), Err(PAST)]);
 }
 
 // Byte 1 is the high half of word 0, and byte 2 the low half of word 1.
@@ -103,14 +120,12 @@ fn halves_of_words(rt: HostRuntime) {
     let mut queue = WriteQueue::new(Stretch::new(WordBoard::new(&mut block), 1, 2));
     let before = look(&queue, 0, 1, 2);
     let puts = [queue.put(0, 0xAB), queue.put(1, 0xCD), queue.put(2, 0xEF)];
-    let waiting = queue.waiting_count();
     let under = below(&queue, 0, 1);
-    let words: &[u16] = queue.into_below().into_below().into_block();
+    let _ = queue.into_below();
     assert_eq!(rt; before, [Ok(0x12), Ok(0x78), Err(PAST)]);
     assert_eq!(rt; puts, [Ok(()), Ok(()), Err(PAST)]);
-    assert_eq!(rt; waiting, 2);
-    assert_eq!(rt; under, [Ok(0x12), Ok(0x78)]);
-    assert_eq!(rt; words, [0xAB34, 0x56CD].as_slice());
+    assert_eq!(rt; under, (2, [Ok(0x12), Ok(0x78)]));
+    assert_eq!(rt; block, [0xAB34, 0x56CD]);
 }
 
 #[test]

@@ -1,15 +1,14 @@
 // Operations 10 and 11.
-use super::jobs::{check_bytes, check_drawn, check_fed, settings};
+use super::jobs::{check_drawn, check_fed, settings};
 use colour::Palette;
 use job::Settings;
 use memory::{ByteBoard, WordBoard};
 use samples::{draw, feed, surface};
-use std::test::Fail;
 
 // Level 16 on (200, 0, 100) and (101, 50, 7): 301 × 16, 50 × 16 and 107 × 16, each div 32: 150, 25 and 53.
 // On white and black it is 255 × 16 div 32 = 127.
 #[test]
-fn halves(rt: HostRuntime) -> Result<(), Fail> {
+fn halves(rt: HostRuntime) {
     let half = Settings {
         operation: 10,
         level: 16,
@@ -25,13 +24,13 @@ fn halves(rt: HostRuntime) -> Result<(), Fail> {
         half,
         2,
         &[100, 0, 200, 255, 255, 255, 53, 25, 150, 127, 127, 127],
-    )
+    );
 }
 
 // Level 31 on white of 3:3:2 and black of 5:6:5: 255 × 31 div 32 = 247, whose fields are 30, 61 and 30: F7BEh.
 // On black and white it is 255 div 32 = 7, whose fields are 0, 1 and 0: 20h.
 #[test]
-fn depths_mixed(rt: HostRuntime) -> Result<(), Fail> {
+fn depths_mixed(rt: HostRuntime) {
     let most = Settings {
         operation: 10,
         level: 31,
@@ -47,20 +46,19 @@ fn depths_mixed(rt: HostRuntime) -> Result<(), Fail> {
         most,
         2,
         &[0xFF, 0x00, 0x00, 0x00, 0xFF, 0xFF, 0xBE, 0xF7, 0x20, 0x00],
-    )
+    );
 }
 
 // Entry 5 of the palette is 234h, (34, 51, 68). Over white, the levels of 05h, 45h, 85h and C5h are 0, 10, 21 and 32:
 // (2550 + 22 × 34, 2550 + 22 × 51, 2550 + 22 × 68) div 32 = (103, 114, 126), and
 // (5355 + 11 × 34, 5355 + 11 × 51, 5355 + 11 × 68) div 32 = (179, 184, 190). The level that is set does not count.
 #[test]
-fn indexed_overlay(rt: HostRuntime) -> Result<(), Fail> {
+fn indexed_overlay(rt: HostRuntime) {
     let mut block = [255u8; 20];
     block[4] = 0x05;
     block[5] = 0x45;
     block[6] = 0x85;
     block[7] = 0xC5;
-    let mut board = ByteBoard::new(&mut block);
     let mut palette = Palette::new();
     palette.set_from_bytes(5, 0x34, 0xF2);
     let overlay = Settings {
@@ -70,9 +68,12 @@ fn indexed_overlay(rt: HostRuntime) -> Result<(), Fail> {
         target: surface(2, 8, 4),
         ..settings()
     };
-    assert_eq!(rt; draw(&mut board, &palette, overlay)?, 4);
-    check_bytes(&rt, &board, 8, &[68, 51, 34, 126, 114, 103])?;
-    check_bytes(&rt, &board, 14, &[190, 184, 179, 255, 255, 255])
+    let drawn = draw(&mut ByteBoard::new(&mut block), &palette, overlay);
+    assert_eq!(rt; drawn, Ok(4));
+    assert_eq!(rt;
+        &block[8..],
+        [68, 51, 34, 126, 114, 103, 190, 184, 179, 255, 255, 255].as_slice()
+    );
 }
 
 // 8ABCh has level 16 and the colour (170, 187, 204): with red, F800h, from the host it is 425 × 16, 187 × 16 and
@@ -80,9 +81,8 @@ fn indexed_overlay(rt: HostRuntime) -> Result<(), Fail> {
 // F123h has level 32, so 07E0h from the host stays. 0ABCh has level 0, so it is (170, 187, 204), whose fields are 21, 46
 // and 25, ADD9h.
 #[test]
-fn overlay_of_four_fields(rt: HostRuntime) -> Result<(), Fail> {
+fn overlay_of_four_fields(rt: HostRuntime) {
     let mut block = [0x8ABCu16, 0xF123, 0x0ABC, 0, 0, 0];
-    let mut board = WordBoard::new(&mut block);
     let overlay = Settings {
         operation: 11,
         first: surface(1, 0, 3),
@@ -92,18 +92,20 @@ fn overlay_of_four_fields(rt: HostRuntime) -> Result<(), Fail> {
         ..settings()
     };
     let bursts: [&[u8]; 3] = [&[0x00], &[0xF8, 0xE0, 0x07, 0xFF], &[0xFF]];
-    assert_eq!(rt;
-        feed(&mut board, &Palette::new(), overlay, &bursts)?,
-        [(1, 0), (4, 2), (1, 1)]
+    let answers = feed(
+        &mut WordBoard::new(&mut block),
+        &Palette::new(),
+        overlay,
+        &bursts,
     );
+    assert_eq!(rt; answers, Ok([(1, 0), (4, 2), (1, 1)]));
     assert_eq!(rt; block, [0x8ABC, 0xF123, 0x0ABC, 0xD2EC, 0x07E0, 0xADD9]);
-    Ok(())
 }
 
 // Level 8 on white from the host and red: (255, 255 × 8 div 32, 255 × 8 div 32) = (255, 63, 63), which is 111 001 00 in
 // 3:3:2, E4h.
 #[test]
-fn level_from_host(rt: HostRuntime) -> Result<(), Fail> {
+fn level_from_host(rt: HostRuntime) {
     let quarter = Settings {
         operation: 11,
         level: 8,
@@ -120,5 +122,5 @@ fn level_from_host(rt: HostRuntime) -> Result<(), Fail> {
         &[&[0xFF, 0xFF], &[], &[0xFF]],
         [(2, 0), (0, 0), (1, 1)],
         &[0xE0, 0xE4],
-    )
+    );
 }
