@@ -66,21 +66,24 @@ fn either_order(rt: HostRuntime) -> Result<(), Fail> {
     let by_one = [Part::Run(1), Part::Run(0), Part::Run(1)];
     let cut = [Part::Feed(&[1, 2, 3]), Part::Feed(&[4])];
     let whole = [Part::Feed(&[1, 2, 3, 4, 5])];
+    let (red, sent) = (red(0)?, sent()?);
     let Orders {
         one: _,
         other: _,
         complete,
     } = in_either_order(
-        &parted(red(0)?, &at_once),
-        &parted(sent()?, &cut),
-        &parted(sent()?, &whole),
-        &parted(red(0)?, &by_one),
+        &parted(red, &at_once),
+        &parted(sent, &cut),
+        &parted(sent, &whole),
+        &parted(red, &by_one),
         one,
         other,
     );
     assert!(rt; complete);
-    assert_eq!(rt; block, [0xE0, 0xE0, 1, 2, 3, 4]);
-    assert_eq!(rt; words, [0xE0E0, 0x0201, 0x0403]);
+    assert_eq!(rt;
+        (block, words),
+        ([0xE0, 0xE0, 1, 2, 3, 4], [0xE0E0, 0x0201, 0x0403])
+    );
     Ok(())
 }
 
@@ -93,21 +96,24 @@ fn overlapping(rt: HostRuntime) -> Result<(), Fail> {
     let other = ByteBoard::new(&mut other_block);
     let run = [Part::Run(2)];
     let feed = [Part::Feed(&[1, 2, 3, 4])];
+    let (red, sent) = (red(1)?, sent()?);
     let Orders {
         one: _,
         other: _,
         complete,
     } = in_either_order(
-        &parted(red(1)?, &run),
-        &parted(sent()?, &feed),
-        &parted(sent()?, &feed),
-        &parted(red(1)?, &run),
+        &parted(red, &run),
+        &parted(sent, &feed),
+        &parted(sent, &feed),
+        &parted(red, &run),
         one,
         other,
     );
     assert!(rt; complete);
-    assert_eq!(rt; block, [7, 0xE0, 1, 2, 3, 4]);
-    assert_eq!(rt; other_block, [7, 0xE0, 0xE0, 2, 3, 4]);
+    assert_eq!(rt;
+        [block, other_block],
+        [[7, 0xE0, 1, 2, 3, 4], [7, 0xE0, 0xE0, 2, 3, 4]]
+    );
     Ok(())
 }
 

@@ -6,6 +6,9 @@ use refusal::Refusal;
 use samples::{begin, rgb, settings, surface};
 use std::test::Fail;
 
+// What a job is declined with over a memory that is smaller than the one it was cleared for.
+const PAST: Refusal = Refusal::PastMemory;
+
 // A fill of two pixels, which white makes FFh.
 fn fill() -> Settings {
     Settings {
@@ -51,10 +54,15 @@ fn edges_of_a_run(rt: HostRuntime) -> Result<(), Fail> {
         run(&mut begun, &mut board, 2),
     ];
     let after = (begun.runs(), run(&mut begun, &mut board, 0));
-    assert_eq!(rt; before, (true, false));
-    assert_eq!(rt; fed, Err(Refusal::NoByteAwaited));
-    assert_eq!(rt; runs, [Ok(0), Ok(2)]);
-    assert_eq!(rt; after, (false, Err(Refusal::NothingToRun)));
+    assert_eq!(rt;
+        (before, fed, runs, after),
+        (
+            (true, false),
+            Err(Refusal::NoByteAwaited),
+            [Ok(0), Ok(2)],
+            (false, Err(Refusal::NothingToRun)),
+        )
+    );
     assert_eq!(rt; block, [0xFF, 0xFF, 7]);
     Ok(())
 }
@@ -73,10 +81,15 @@ fn edges_of_a_feed(rt: HostRuntime) -> Result<(), Fail> {
         feed(&mut begun, &mut board, &[0, 9]),
     ];
     let after = (begun.awaits(), feed(&mut begun, &mut board, &[]));
-    assert_eq!(rt; before, (true, false));
-    assert_eq!(rt; ran, Err(Refusal::NothingToRun));
-    assert_eq!(rt; feeds, [Ok((1, 0)), Ok((1, 1))]);
-    assert_eq!(rt; after, (false, Err(Refusal::NoByteAwaited)));
+    assert_eq!(rt;
+        (before, ran, feeds, after),
+        (
+            (true, false),
+            Err(Refusal::NothingToRun),
+            [Ok((1, 0)), Ok((1, 1))],
+            (false, Err(Refusal::NoByteAwaited)),
+        )
+    );
     assert_eq!(rt; block, [3, 7, 7]);
     Ok(())
 }
@@ -100,9 +113,10 @@ fn fill_over_less(rt: HostRuntime) -> Result<(), Fail> {
         run(&mut begun, &mut board, 2),
         run(&mut begun, &mut small, 2),
     ];
-    assert_eq!(rt; declined, [Err(Refusal::PastMemory); 2]);
-    assert_eq!(rt; (fed, drawn), (Err(Refusal::PastMemory), 0));
-    assert_eq!(rt; runs, [Ok(2), Err(Refusal::PastMemory)]);
+    assert_eq!(rt;
+        (declined, fed, drawn, runs),
+        ([Err(PAST); 2], Err(PAST), 0, [Ok(2), Err(PAST)])
+    );
     assert_eq!(rt; (less, block), ([5, 5], [0xFF, 0xFF, 7]));
     Ok(())
 }
@@ -124,9 +138,10 @@ fn host_over_less(rt: HostRuntime) -> Result<(), Fail> {
         feed(&mut begun, &mut board, &[0]),
         feed(&mut begun, &mut small, &[0]),
     ];
-    assert_eq!(rt; first, [Ok((1, 0)), Err(Refusal::PastMemory)]);
-    assert_eq!(rt; ran, Err(Refusal::PastMemory));
-    assert_eq!(rt; last, [Ok((1, 1)), Err(Refusal::PastMemory)]);
+    assert_eq!(rt;
+        (first, ran, last),
+        ([Ok((1, 0)), Err(PAST)], Err(PAST), [Ok((1, 1)), Err(PAST)])
+    );
     assert_eq!(rt; (less, block), ([5, 5], [3, 7, 7]));
     Ok(())
 }
@@ -140,7 +155,6 @@ fn fill_over_more(rt: HostRuntime) -> Result<(), Fail> {
     let mut large = ByteBoard::new(&mut more);
     let mut begun = begin(&board, fill())?;
     let ran = run(&mut begun, &mut large, 2);
-    assert_eq!(rt; ran, Ok(2));
-    assert_eq!(rt; (block, more), ([7, 7], [0xFF, 0xFF, 5]));
+    assert_eq!(rt; (ran, block, more), (Ok(2), [7, 7], [0xFF, 0xFF, 5]));
     Ok(())
 }

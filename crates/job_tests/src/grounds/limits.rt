@@ -25,27 +25,35 @@ fn ground_of_fill(image: u16, left: u16, top: u16, width: u16, height: u16) -> u
 // 7: an image and a side have 1 to 8,191 pixels.
 #[test]
 fn sides(rt: HostRuntime) {
-    assert_eq!(rt; ground_of_fill(8191, 0, 0, 8191, 1), 0);
-    assert_eq!(rt; ground_of_fill(8192, 0, 0, 8191, 1), 7);
-    assert_eq!(rt; ground_of_fill(8192, 0, 0, 8192, 1), 7);
-    assert_eq!(rt; ground_of_fill(1, 0, 0, 1, 8191), 0);
-    assert_eq!(rt; ground_of_fill(1, 0, 0, 1, 8192), 7);
-    assert_eq!(rt; ground_of_fill(1, 0, 0, 1, 1), 0);
-    assert_eq!(rt; ground_of_fill(0, 0, 0, 1, 1), 7);
-    assert_eq!(rt; ground_of_fill(1, 0, 0, 0, 1), 7);
-    assert_eq!(rt; ground_of_fill(1, 0, 0, 1, 0), 7);
+    for (image, left, top, width, height, number) in [
+        (8191u16, 0u16, 0u16, 8191u16, 1u16, 0u8),
+        (8192, 0, 0, 8191, 1, 7),
+        (8192, 0, 0, 8192, 1, 7),
+        (1, 0, 0, 1, 8191, 0),
+        (1, 0, 0, 1, 8192, 7),
+        (1, 0, 0, 1, 1, 0),
+        (0, 0, 0, 1, 1, 7),
+        (1, 0, 0, 0, 1, 7),
+        (1, 0, 0, 1, 0, 7),
+    ] {
+        assert_eq!(rt; ground_of_fill(image, left, top, width, height), number);
+    }
 }
 
 // 7: a rectangle ends within its image's width, and begins at 8,191 at most. Row 8,191 of an image 1 wide is byte 8,191.
 #[test]
 fn corners(rt: HostRuntime) {
-    assert_eq!(rt; ground_of_fill(4, 1, 0, 3, 1), 0);
-    assert_eq!(rt; ground_of_fill(4, 2, 0, 3, 1), 7);
-    assert_eq!(rt; ground_of_fill(4, 0, 0, 5, 1), 7);
-    assert_eq!(rt; ground_of_fill(8191, 8190, 0, 1, 1), 0);
-    assert_eq!(rt; ground_of_fill(8191, 8191, 0, 1, 1), 7);
-    assert_eq!(rt; ground_of_fill(1, 0, 8191, 1, 1), 0);
-    assert_eq!(rt; ground_of_fill(1, 0, 8192, 1, 1), 7);
+    for (image, left, top, width, height, number) in [
+        (4u16, 1u16, 0u16, 3u16, 1u16, 0u8),
+        (4, 2, 0, 3, 1, 7),
+        (4, 0, 0, 5, 1, 7),
+        (8191, 8190, 0, 1, 1, 0),
+        (8191, 8191, 0, 1, 1, 7),
+        (1, 0, 8191, 1, 1, 0),
+        (1, 0, 8192, 1, 1, 7),
+    ] {
+        assert_eq!(rt; ground_of_fill(image, left, top, width, height), number);
+    }
 }
 
 // 7: the window of each source that is used counts, and of no other.
@@ -94,15 +102,23 @@ fn ground_of_pattern(large: bool, width: u16, left: u16, block: &mut [u8]) -> u8
 // has 64 bytes; in one 9 wide from column 1 on it ends at 7 × 9 + 9 = 72; of 16 × 16 in an image 16 wide it has 256.
 #[test]
 fn patterns(rt: HostRuntime) {
-    assert_eq!(rt; ground_of_pattern(false, 8, 0, &mut [0; 64]), 0);
-    assert_eq!(rt; ground_of_pattern(false, 8, 0, &mut [0; 63]), 8);
-    assert_eq!(rt; ground_of_pattern(false, 7, 0, &mut [0; 256]), 7);
-    assert_eq!(rt; ground_of_pattern(false, 8, 1, &mut [0; 256]), 7);
-    assert_eq!(rt; ground_of_pattern(false, 9, 1, &mut [0; 72]), 0);
-    assert_eq!(rt; ground_of_pattern(false, 9, 1, &mut [0; 71]), 8);
-    assert_eq!(rt; ground_of_pattern(true, 16, 0, &mut [0; 256]), 0);
-    assert_eq!(rt; ground_of_pattern(true, 16, 0, &mut [0; 255]), 8);
-    assert_eq!(rt; ground_of_pattern(true, 15, 0, &mut [0; 256]), 7);
+    let mut block = [0; 256];
+    for (large, width, left, bytes, number) in [
+        (false, 8u16, 0u16, 64usize, 0u8),
+        (false, 8, 0, 63, 8),
+        (false, 7, 0, 256, 7),
+        (false, 8, 1, 256, 7),
+        (false, 9, 1, 72, 0),
+        (false, 9, 1, 71, 8),
+        (true, 16, 0, 256, 0),
+        (true, 16, 0, 255, 8),
+        (true, 15, 0, 256, 7),
+    ] {
+        assert_eq!(rt;
+            ground_of_pattern(large, width, left, &mut block[..bytes]),
+            number
+        );
+    }
 }
 
 // 8: over 10 bytes a pixel of one byte begins at 9 at most, one of two at 8 and one of three at 7.

@@ -5,7 +5,6 @@ use layers::{Stretch, WriteQueue};
 use memory::{ByteBoard, WordBoard};
 use refusal::Refusal;
 use samples::{draw, feed, rgb, surface};
-use std::test::Fail;
 
 // Images 4 wide of 3:3:2, with the raster rule that copies the first source.
 fn settings(operation: u8, width: u16, height: u16) -> Settings {
@@ -20,7 +19,7 @@ fn settings(operation: u8, width: u16, height: u16) -> Settings {
 // The bytes 1 2 3 4 lie at 2 of the block, and a stretch of four has them. Copied one to the right, each is drawn before the
 // next is read, also while it still waits in the queue.
 #[test]
-fn copy_through_stretch_and_queue(rt: HostRuntime) -> Result<(), Fail> {
+fn copy_through_stretch_and_queue(rt: HostRuntime) {
     let mut block = [9u8, 9, 1, 2, 3, 4, 9];
     let mut pile = Stretch::new(WriteQueue::new(ByteBoard::new(&mut block)), 2, 4);
     let target = Surface {
@@ -36,15 +35,13 @@ fn copy_through_stretch_and_queue(rt: HostRuntime) -> Result<(), Fail> {
         },
     );
     let _ = pile.into_below().into_below();
-    assert_eq!(rt; answer?, 3);
-    assert_eq!(rt; block, [9, 9, 1, 1, 1, 1, 9]);
-    Ok(())
+    assert_eq!(rt; (answer, block), (Ok(3), [9, 9, 1, 1, 1, 1, 9]));
 }
 
 // A fill of 3 × 3 pixels of 8:8:8 in (1, 2, 3), 27 bytes 3 2 1 3 2 1 and so on, in a stretch from address 1: more puts than
 // can wait. The word at the start has its low byte left, and then come the words 0102h, 0203h, 0301h over and over.
 #[test]
-fn fill_through_queue_and_stretch(rt: HostRuntime) -> Result<(), Fail> {
+fn fill_through_queue_and_stretch(rt: HostRuntime) {
     let mut block = [0x1111u16; 15];
     let mut pile = WriteQueue::new(Stretch::new(WordBoard::new(&mut block), 1, 27));
     let target = surface(2, 0, 3);
@@ -58,8 +55,7 @@ fn fill_through_queue_and_stretch(rt: HostRuntime) -> Result<(), Fail> {
     );
     let waiting = pile.waiting_count();
     let _ = pile.into_below();
-    assert_eq!(rt; answer?, 9);
-    assert_eq!(rt; waiting, 16);
+    assert_eq!(rt; (answer, waiting), (Ok(9), 16));
     assert_eq!(rt;
         block,
         [
@@ -67,13 +63,12 @@ fn fill_through_queue_and_stretch(rt: HostRuntime) -> Result<(), Fail> {
             0x0203, 0x0301, 0x0102, 0x1111,
         ]
     );
-    Ok(())
 }
 
 // Two pixels of 5:6:5 from the host, drawn in 3:3:2 over a stretch that begins at an odd byte of the words: red, F800h, is
 // E0h, and blue, 001Fh, is 03h. The second source is read, though rule 12 takes nothing of it.
 #[test]
-fn host_through_queue_and_stretch(rt: HostRuntime) -> Result<(), Fail> {
+fn host_through_queue_and_stretch(rt: HostRuntime) {
     let mut block = [0x1111u16, 0x2222];
     let mut pile = WriteQueue::new(Stretch::new(WordBoard::new(&mut block), 1, 2));
     let first = surface(1, 0, 4);
@@ -88,22 +83,18 @@ fn host_through_queue_and_stretch(rt: HostRuntime) -> Result<(), Fail> {
         &bursts,
     );
     let _ = pile.into_below();
-    assert_eq!(rt; answers?, [(3, 1), (1, 1)]);
-    assert_eq!(rt; block, [0xE011, 0x2203]);
-    Ok(())
+    assert_eq!(rt; (answers, block), (Ok([(3, 1), (1, 1)]), [0xE011, 0x2203]));
 }
 
 // A fill of three pixels past the end of a stretch of two is declined with 8, though the memory below has room, and draws
 // nothing. Of two pixels it is accepted: (1, 2, 3) is 0 in 3:3:2.
 #[test]
-fn past_a_stretch(rt: HostRuntime) -> Result<(), Fail> {
+fn past_a_stretch(rt: HostRuntime) {
     let mut block = [9u8; 8];
     let mut pile = Stretch::new(WriteQueue::new(ByteBoard::new(&mut block)), 2, 2);
     let declined = draw(&mut pile, &Palette::new(), settings(12, 3, 1));
     let drawn = draw(&mut pile, &Palette::new(), settings(12, 2, 1));
     let _ = pile.into_below().into_below();
-    assert_eq!(rt; declined, Err(Refusal::PastMemory));
-    assert_eq!(rt; drawn?, 2);
+    assert_eq!(rt; [declined, drawn], [Err(Refusal::PastMemory), Ok(2)]);
     assert_eq!(rt; block, [9, 9, 0, 0, 9, 9, 9, 9]);
-    Ok(())
 }

@@ -42,14 +42,17 @@ fn oldest_goes_below(rt: HostRuntime) {
     let past = queue.put(20, 1);
     let still = below(&queue, 16, 20);
     let taken_apart = look(&queue.into_below(), 1, 16, 17);
-    assert_eq!(rt; past, Err(PAST));
     assert_eq!(rt;
-        [under, still],
-        [(16, [Ok(100), Ok(7)]), (16, [Ok(7), Err(PAST)])]
+        (under, shown, past),
+        (
+            (16, [Ok(100), Ok(7)]),
+            [Ok(100), Ok(101), Ok(116)],
+            Err(PAST)
+        )
     );
     assert_eq!(rt;
-        [shown, taken_apart],
-        [[Ok(100), Ok(101), Ok(116)], [Ok(101), Ok(116), Ok(7)]]
+        (still, taken_apart),
+        ((16, [Ok(7), Err(PAST)]), [Ok(101), Ok(116), Ok(7)])
     );
 }
 
@@ -85,10 +88,14 @@ fn stretch_past_the_end(rt: HostRuntime) {
     let before = look(&stretch, 0, 1, 2);
     let puts = [stretch.put(2, 77), stretch.put(1, 77)];
     let after = look(&stretch.into_below(), 7, 8, 9);
-    assert_eq!(rt; (size, puts), (2, [Err(PAST), Ok(())]));
     assert_eq!(rt;
-        [before, after],
-        [[Ok(9), Ok(10), Err(PAST)], [Ok(8), Ok(9), Ok(77)]]
+        (size, before, puts, after),
+        (
+            2,
+            [Ok(9), Ok(10), Err(PAST)],
+            [Err(PAST), Ok(())],
+            [Ok(8), Ok(9), Ok(77)],
+        )
     );
 }
 
@@ -109,8 +116,7 @@ fn stretch_from_past_the_end(rt: HostRuntime) {
     let past = Stretch::new(ByteBoard::new(&mut block), 4, 5).put(0, 9);
     let one = Stretch::new(ByteBoard::new(&mut block), 1, 1);
     let shown = look(&one, 0, 1, 2);
-    assert_eq!(rt; past, Err(PAST));
-    assert_eq!(rt; shown, [Ok(2), Err(PAST), Err(PAST)]);
+    assert_eq!(rt; (past, shown), (Err(PAST), [Ok(2), Err(PAST), Err(PAST)]));
 }
 
 // Byte 1 is the high half of word 0, and byte 2 the low half of word 1.
@@ -122,9 +128,14 @@ fn halves_of_words(rt: HostRuntime) {
     let puts = [queue.put(0, 0xAB), queue.put(1, 0xCD), queue.put(2, 0xEF)];
     let under = below(&queue, 0, 1);
     let _ = queue.into_below();
-    assert_eq!(rt; before, [Ok(0x12), Ok(0x78), Err(PAST)]);
-    assert_eq!(rt; puts, [Ok(()), Ok(()), Err(PAST)]);
-    assert_eq!(rt; under, (2, [Ok(0x12), Ok(0x78)]));
+    assert_eq!(rt;
+        (before, puts, under),
+        (
+            [Ok(0x12), Ok(0x78), Err(PAST)],
+            [Ok(()), Ok(()), Err(PAST)],
+            (2, [Ok(0x12), Ok(0x78)]),
+        )
+    );
     assert_eq!(rt; block, [0xAB34, 0x56CD]);
 }
 
