@@ -8,4 +8,6 @@ mod grounds;
 #[cfg(test)]
 mod layered;
 #[cfg(test)]
+mod numbered;
+#[cfg(test)]
 mod pictures;

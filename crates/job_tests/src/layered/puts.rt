@@ -1,9 +1,9 @@
 // Puts and reads through a queue, a stretch, and piles of both.
+use crate::numbered::put_numbers;
 use layers::{Stretch, WriteQueue};
 use memory::{ByteBoard, Memory, WordBoard};
 use piles::{BytePut, WordPut, put_queued_bytes, put_stretched_words};
 use refusal::Refusal;
-use std::ops::Range;
 
 // What a read or a put past the end answers.
 const PAST: Refusal = Refusal::NoSuchAddress;
@@ -24,19 +24,12 @@ fn below<M: Memory>(
     )
 }
 
-// Puts at each address its number, more by so much.
-fn put_all<M: Memory>(memory: &mut M, addresses: Range<u8>, more: u8) {
-    for address in addresses {
-        let _ = memory.put(address as u32, address.wrapping_add(more));
-    }
-}
-
 // 17 puts, of which 16 can wait: 100 at address 0, 101 at 1 and so on.
 #[test]
 fn oldest_goes_below(rt: HostRuntime) {
     let mut block = [7u8; 20];
     let mut queue = WriteQueue::new(ByteBoard::new(&mut block));
-    put_all(&mut queue, 0..17, 100);
+    put_numbers(&mut queue, 0..17, 100);
     let under = below(&queue, 0, 1);
     let shown = look(&queue, 0, 1, 16);
     let past = queue.put(20, 1);
@@ -65,7 +58,7 @@ fn waiting_address_keeps_its_place(rt: HostRuntime) {
         let _ = queue.put(address, value);
     }
     let two = below(&queue, 5, 6);
-    put_all(&mut queue, 10..25, 0);
+    put_numbers(&mut queue, 10..25, 0);
     let full = below(&queue, 5, 6);
     queue.drain();
     let drained = below(&queue, 6, 24);

@@ -1,16 +1,10 @@
 // Operations 6 and 7.
 use super::jobs::settings;
+use crate::numbered::put_numbers;
 use colour::Palette;
 use job::Settings;
 use memory::{ByteBoard, Memory};
 use samples::{draw, rgb, surface};
-
-// Puts 0, 1, 2 and so on from address 0 on.
-fn count_up<M: Memory>(memory: &mut M, count: u32) {
-    for k in 0..count {
-        let _ = memory.put(k, (k % 256) as u8);
-    }
-}
 
 // The pattern of 8 × 8 has 8r + c at (c, r), and the rectangle is 9 × 2, so column 8 repeats column 0. Exclusive or with
 // what lies there, 10h: an exclusive or of 3:3:2 values, bit by bit.
@@ -18,7 +12,7 @@ fn count_up<M: Memory>(memory: &mut M, count: u32) {
 fn pattern_of_eight(rt: HostRuntime) {
     let mut block = [0x10u8; 82];
     let mut board = ByteBoard::new(&mut block);
-    count_up(&mut board, 64);
+    put_numbers(&mut board, 0..64, 0);
     let xor = Settings {
         operation: 6,
         code: 6,
@@ -47,7 +41,7 @@ fn pattern_of_eight(rt: HostRuntime) {
 fn pattern_of_sixteen(rt: HostRuntime) {
     let mut block = [0u8; 562];
     let mut board = ByteBoard::new(&mut block);
-    count_up(&mut board, 256);
+    put_numbers(&mut board, 0..256, 0);
     let inverse = Settings {
         operation: 6,
         code: 3,
