@@ -3,4 +3,6 @@
 #[cfg(test)]
 mod cuts;
 #[cfg(test)]
+mod drawings;
+#[cfg(test)]
 mod orders;

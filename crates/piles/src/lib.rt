@@ -90,6 +90,3 @@ pub fn put_byte(block: &mut [u8], address: u32, value: u8) -> Result<(), Refusal
     let mut board = ByteBoard::new(block);
     board.put(address, value)
 }
-
-#[cfg(test)]
-mod tests;

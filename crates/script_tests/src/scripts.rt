@@ -2,7 +2,6 @@
 use bench::run;
 use std::alloc::AllocError;
 use std::process::Abort;
-use std::str::from_utf8;
 use std::test::Fail;
 
 fn add_line(text: &mut String, line: &str) -> Result<(), AllocError> {
@@ -11,18 +10,23 @@ fn add_line(text: &mut String, line: &str) -> Result<(), AllocError> {
 }
 
 // What the program writes for an input.
+fn written(rt: &impl AllocGlobal, input: &str) -> Result<String, Fail> {
+    let mut bytes = Vec::new(rt.alloc());
+    run(input.as_bytes(), &mut bytes)?;
+    Ok(String::from_utf8(bytes)?)
+}
+
+// Whether the program answers each line of an input with the line beside it.
 pub(crate) fn check_run(
     rt: &(impl Abort + AllocGlobal),
     input: &str,
     expected: &str,
 ) -> Result<(), Fail> {
-    let mut written = Vec::new(rt.alloc());
-    run(input.as_bytes(), &mut written)?;
-    let written = from_utf8(&written)?;
+    let written = written(rt, input)?;
     for (command, (answer, due)) in input.lines().zip(written.lines().zip(expected.lines())) {
         assert_eq!(rt; answer, due, "{command}");
     }
-    assert_eq!(rt; written, expected);
+    assert_eq!(rt; written.as_str(), expected);
     Ok(())
 }
 

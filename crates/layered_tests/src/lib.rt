@@ -1,5 +1,0 @@
-#![tactic(auto)]
-
-// Small pictures through layers over both boards.
-#[cfg(test)]
-mod pictures;
