@@ -2,7 +2,7 @@
 use crate::numbered::put_numbers;
 use layers::{Stretch, WriteQueue};
 use memory::{ByteBoard, Memory, WordBoard};
-use piles::{BytePut, WordPut, put_queued_bytes, put_stretched_words};
+use piles::{BytePut, WordPut, put_byte, put_queued_bytes, put_stretched_words};
 use refusal::Refusal;
 
 // What a read or a put past the end answers.
@@ -165,4 +165,11 @@ fn words_through_a_pile(rt: HostRuntime) {
     assert_eq!(rt; (answer, seen, waiting), (Ok(()), Ok(0x7F), 1));
     let words: &[u16] = stretch.into_below().into_block();
     assert_eq!(rt; words, [0x1111, 0x227F].as_slice());
+}
+
+#[test]
+fn board_that_is_let_go(rt: HostRuntime) {
+    let mut bytes = [1u8, 2, 3];
+    let puts = [put_byte(&mut bytes, 1, 9), put_byte(&mut bytes, 3, 9)];
+    assert_eq!(rt; (puts, bytes), ([Ok(()), Err(PAST)], [1, 9, 3]));
 }
