@@ -3,8 +3,7 @@ use colour::{Canvas, Colour, Palette, Readable};
 use formats::Depth;
 use pixel::keyed;
 
-// Whether a source's pixel is left out before a background. Each call below is a row of one line, so that a loop over a table would be
-// no plainer.
+// Whether a source's pixel is left out before a background.
 fn left_out(depth: Depth, value: u32, red: u8, green: u8, blue: u8) -> bool {
     let key = depth.narrow(Colour { red, green, blue });
     keyed(value, key, depth.colour(&Palette::new(), value)).is_none()

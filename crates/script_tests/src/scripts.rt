@@ -16,17 +16,17 @@ fn written(rt: &impl AllocGlobal, input: &str) -> Result<String, Fail> {
     Ok(String::from_utf8(bytes)?)
 }
 
-// Whether the program answers each line of an input with the line beside it.
+// Each line of an input is answered with the line beside it.
 pub(crate) fn check_run(
     rt: &(impl Abort + AllocGlobal),
     input: &str,
     expected: &str,
 ) -> Result<(), Fail> {
-    let written = written(rt, input)?;
-    for (command, (answer, due)) in input.lines().zip(written.lines().zip(expected.lines())) {
+    let output = written(rt, input)?;
+    for (command, (answer, due)) in input.lines().zip(output.lines().zip(expected.lines())) {
         assert_eq!(rt; answer, due, "{command}");
     }
-    assert_eq!(rt; written.as_str(), expected);
+    assert_eq!(rt; output.as_str(), expected);
     Ok(())
 }
 

@@ -7,7 +7,7 @@ use samples::{begin, rgb, settings, surface};
 use std::test::Fail;
 
 // What a job is declined with over a memory that is smaller than the one it was cleared for.
-const PAST: Refusal = Refusal::PastMemory;
+const TOO_SMALL: Refusal = Refusal::PastMemory;
 
 // A fill of two pixels, which white makes FFh.
 fn fill() -> Settings {
@@ -53,14 +53,16 @@ fn edges_of_a_run(rt: HostRuntime) -> Result<(), Fail> {
         run(&mut begun, &mut board, 0),
         run(&mut begun, &mut board, 2),
     ];
-    let after = (begun.runs(), run(&mut begun, &mut board, 0));
+    let still_runs = begun.runs();
+    let past = run(&mut begun, &mut board, 0);
     assert_eq!(rt;
-        (before, fed, runs, after),
+        (before, fed, runs, still_runs, past),
         (
             (true, false),
             Err(Refusal::NoByteAwaited),
             [Ok(0), Ok(2)],
-            (false, Err(Refusal::NothingToRun)),
+            false,
+            Err(Refusal::NothingToRun),
         )
     );
     assert_eq!(rt; block, [0xFF, 0xFF, 7]);
@@ -74,20 +76,22 @@ fn edges_of_a_feed(rt: HostRuntime) -> Result<(), Fail> {
     let mut block = [7u8; 3];
     let mut board = ByteBoard::new(&mut block);
     let mut begun = begin(&board, host())?;
-    let before = (begun.awaits(), begun.runs());
+    let before = (begun.runs(), begun.awaits());
     let ran = run(&mut begun, &mut board, 1);
     let feeds = [
         feed(&mut begun, &mut board, &[0x1F]),
         feed(&mut begun, &mut board, &[0, 9]),
     ];
-    let after = (begun.awaits(), feed(&mut begun, &mut board, &[]));
+    let still_awaits = begun.awaits();
+    let past = feed(&mut begun, &mut board, &[]);
     assert_eq!(rt;
-        (before, ran, feeds, after),
+        (before, ran, feeds, still_awaits, past),
         (
-            (true, false),
+            (false, true),
             Err(Refusal::NothingToRun),
             [Ok((1, 0)), Ok((1, 1))],
-            (false, Err(Refusal::NoByteAwaited)),
+            false,
+            Err(Refusal::NoByteAwaited),
         )
     );
     assert_eq!(rt; block, [3, 7, 7]);
@@ -115,7 +119,7 @@ fn fill_over_less(rt: HostRuntime) -> Result<(), Fail> {
     ];
     assert_eq!(rt;
         (declined, fed, drawn, runs),
-        ([Err(PAST); 2], Err(PAST), 0, [Ok(2), Err(PAST)])
+        ([Err(TOO_SMALL); 2], Err(TOO_SMALL), 0, [Ok(2), Err(TOO_SMALL)])
     );
     assert_eq!(rt; (less, block), ([5, 5], [0xFF, 0xFF, 7]));
     Ok(())
@@ -140,7 +144,7 @@ fn host_over_less(rt: HostRuntime) -> Result<(), Fail> {
     ];
     assert_eq!(rt;
         (first, ran, last),
-        ([Ok((1, 0)), Err(PAST)], Err(PAST), [Ok((1, 1)), Err(PAST)])
+        ([Ok((1, 0)), Err(TOO_SMALL)], Err(TOO_SMALL), [Ok((1, 1)), Err(TOO_SMALL)])
     );
     assert_eq!(rt; (less, block), ([5, 5], [3, 7, 7]));
     Ok(())

@@ -13,7 +13,7 @@ fn look<M: Memory>(memory: &M, first: u32, second: u32, third: u32) -> [Result<u
 }
 
 // How many bytes wait, and what lies below two addresses.
-fn below<M: Memory>(
+fn waiting_and_below<M: Memory>(
     queue: &WriteQueue<M>,
     first: u32,
     second: u32,
@@ -30,10 +30,10 @@ fn oldest_goes_below(rt: HostRuntime) {
     let mut block = [7u8; 20];
     let mut queue = WriteQueue::new(ByteBoard::new(&mut block));
     put_numbers(&mut queue, 0..17, 100);
-    let under = below(&queue, 0, 1);
+    let under = waiting_and_below(&queue, 0, 1);
     let shown = look(&queue, 0, 1, 16);
     let past = queue.put(20, 1);
-    let still = below(&queue, 16, 20);
+    let still = waiting_and_below(&queue, 16, 20);
     let taken_apart = look(&queue.into_below(), 1, 16, 17);
     assert_eq!(rt;
         (under, shown, past),
@@ -57,11 +57,11 @@ fn waiting_address_keeps_its_place(rt: HostRuntime) {
     for (address, value) in [(5u32, 1u8), (6, 2), (5, 3)] {
         let _ = queue.put(address, value);
     }
-    let two = below(&queue, 5, 6);
+    let two = waiting_and_below(&queue, 5, 6);
     put_numbers(&mut queue, 10..25, 0);
-    let full = below(&queue, 5, 6);
+    let full = waiting_and_below(&queue, 5, 6);
     queue.drain();
-    let drained = below(&queue, 6, 24);
+    let drained = waiting_and_below(&queue, 6, 24);
     let _ = queue.into_below();
     assert_eq!(rt;
         [two, full, drained],
@@ -95,21 +95,18 @@ fn stretch_past_the_end(rt: HostRuntime) {
 #[test]
 fn stretch_from_past_the_end(rt: HostRuntime) {
     let mut block = [1u8, 2, 3];
-    for (start, length, size) in [
-        (3u32, 5u32, 0u32),
-        (4, 5, 0),
-        (0, 4_294_967_295, 3),
-        (1, 1, 1),
-    ] {
-        assert_eq!(rt;
-            Stretch::new(ByteBoard::new(&mut block), start, length).size(),
-            size
-        );
-    }
-    let past = Stretch::new(ByteBoard::new(&mut block), 4, 5).put(0, 9);
-    let one = Stretch::new(ByteBoard::new(&mut block), 1, 1);
-    let shown = look(&one, 0, 1, 2);
-    assert_eq!(rt; (past, shown), (Err(PAST), [Ok(2), Err(PAST), Err(PAST)]));
+    let at_end = Stretch::new(ByteBoard::new(&mut block), 3, 5);
+    let none = at_end.size();
+    let mut past = Stretch::new(at_end.into_below(), 4, 5);
+    let declined = (past.size(), past.put(0, 9));
+    let all = Stretch::new(past.into_below(), 0, 4_294_967_295);
+    let whole = all.size();
+    let one = Stretch::new(all.into_below(), 1, 1);
+    let shown = (one.size(), look(&one, 0, 1, 2));
+    assert_eq!(rt;
+        (none, declined, whole, shown),
+        (0, (0, Err(PAST)), 3, (1, [Ok(2), Err(PAST), Err(PAST)]))
+    );
 }
 
 // Byte 1 is the high half of word 0, and byte 2 the low half of word 1.
@@ -119,8 +116,8 @@ fn halves_of_words(rt: HostRuntime) {
     let mut queue = WriteQueue::new(Stretch::new(WordBoard::new(&mut block), 1, 2));
     let before = look(&queue, 0, 1, 2);
     let puts = [queue.put(0, 0xAB), queue.put(1, 0xCD), queue.put(2, 0xEF)];
-    let under = below(&queue, 0, 1);
-    let _ = queue.into_below();
+    let under = waiting_and_below(&queue, 0, 1);
+    let words: &[u16] = queue.into_below().into_below().into_block();
     assert_eq!(rt;
         (before, puts, under),
         (
@@ -129,7 +126,7 @@ fn halves_of_words(rt: HostRuntime) {
             (2, [Ok(0x12), Ok(0x78)]),
         )
     );
-    assert_eq!(rt; block, [0xAB34, 0x56CD]);
+    assert_eq!(rt; words, [0xAB34, 0x56CD].as_slice());
 }
 
 #[test]
