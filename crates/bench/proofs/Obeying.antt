@@ -1,5 +1,5 @@
 -- Lines that are obeyed and answered one after another.
-use Rattle.std.proofs.Common.{◌≡◌, ℕ, List, [], ◌∷◌, ◌++◌, map, Result, Ok, Err, OnErr, refl, sym, ap, ◌∙◌, append_assoc, append-nil}
+use Rattle.std.proofs.Common.{◌≡◌, ℕ, List, [], ◌∷◌, ◌++◌, map, Result, Ok, Err, OnErr, sym, ap, ◌∙◌, append_assoc, append-nil}
 use Rattle.std.specs.List.{fold}
 use Rattle.std.proofs.lemmas.List.{map-append}
 use Rattle.std.proofs.lemmas.List.Sums.{fold-append}
@@ -49,9 +49,10 @@ module _ {s : State} {ls : List (List ℕ)} {before : List ℕ} {t : State} {wri
 
   pub stopped : (l : List ℕ) (left : List (List ℕ)) → Underway s ls before t written (l ∷ left) → GaveUp s ls before (line_after t (command_of l)) written
   stopped l left u = record {
-    answered = record { first = u.done; rest = l ∷ left; all = u.all; answers = u.so_far.answers };
+    first = u.done;
     last = l;
-    others = left;
-    follow = refl;
+    rest = left;
+    all = u.all;
+    answers = u.so_far.answers;
     panel = ap (λ p. line_after p (command_of l)) u.so_far.panel ∙ sym (end_more s u.done l);
   }

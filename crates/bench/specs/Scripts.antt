@@ -28,17 +28,18 @@ pub record Replayed (s : State) (ls : List (List ℕ)) (before : List ℕ) (t : 
   pub answers : written ≡ before ++ transcript s ls
   pub panel : t ≡ end_of s ls
 
--- the first of the lines ls were obeyed and answered
+-- the first of the lines ls were answered
 pub record AnsweredFirst (s : State) (ls : List (List ℕ)) (before written : List ℕ) : Type 0 where
   pub first : List (List ℕ)
   pub rest : List (List ℕ)
   pub all : ls ≡ first ++ rest
   pub answers : written ≡ before ++ transcript s first
 
--- there was no room for an answer: the line after those that were answered was obeyed, and is the last
+-- there was no room for an answer: the lines before `last` were obeyed and answered, and `last` was obeyed
 pub record GaveUp (s : State) (ls : List (List ℕ)) (before : List ℕ) (t : State) (written : List ℕ) : Type 0 where
-  pub answered : AnsweredFirst s ls before written
+  pub first : List (List ℕ)
   pub last : List ℕ
-  pub others : List (List ℕ)
-  pub follow : answered.rest ≡ last ∷ others
-  pub panel : t ≡ end_of s (answered.first ++ last ∷ [])
+  pub rest : List (List ℕ)
+  pub all : ls ≡ first ++ last ∷ rest
+  pub answers : written ≡ before ++ transcript s first
+  pub panel : t ≡ end_of s (first ++ last ∷ [])

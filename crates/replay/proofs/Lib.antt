@@ -2,3 +2,4 @@ pub mod Parts
 pub mod Bursts
 pub mod Runs
 pub mod Joins
+pub mod Making

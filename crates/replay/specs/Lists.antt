@@ -1,5 +1,5 @@
 -- Lists of calls, made one after another.
-use Rattle.std.specs.Prelude.{◌≡◌, List, ◌++◌, fold}
+use Rattle.std.specs.Prelude.{◌≡◌, List, [], ◌∷◌, ◌++◌, fold}
 use Rattle.std.specs.List.{scan}
 use Rattle.panel_calls.specs.Calls.{Call}
 use Rattle.panel_calls.specs.Replies.{Reply}
@@ -18,3 +18,12 @@ ends s cs = fold left_by s cs
 pub record Replayed (s : State) (cs : List Call) (before : List Reply) (t : State) (after : List Reply) : Type 0 where
   pub answers_are : after ≡ before ++ answers s cs
   pub panel_is : t ≡ ends s cs
+
+-- there was no room for an answer: the calls before `last` were made and their answers kept, and `last` was made
+pub record GaveUp (s : State) (cs : List Call) (before : List Reply) (t : State) (after : List Reply) : Type 0 where
+  pub first : List Call
+  pub last : Call
+  pub rest : List Call
+  pub all : cs ≡ first ++ last ∷ rest
+  pub answers_are : after ≡ before ++ answers s first
+  pub panel_is : t ≡ ends s (first ++ last ∷ [])

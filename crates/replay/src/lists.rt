@@ -3,7 +3,7 @@ ghost use Rattle.std.specs.Prelude.{◌≡◌, ℕ, ◌+◌, ◌<◌, ◌≤◌,
 ghost use Rattle.panel_calls.specs.Calls.{call_of};
 ghost use Rattle.panel_calls.specs.Replies.{reply_of};
 ghost use Rattle.panel.specs.State.{seen, fresh};
-ghost use Rattle.replay.specs.Lists.{Replayed};
+ghost use Rattle.replay.specs.Lists.{Replayed, GaveUp};
 
 use memory::Memory;
 use panel::Panel;
@@ -11,7 +11,7 @@ use panel_calls::{Answer, Call};
 use std::alloc::AllocError;
 
 // Makes the calls in turn and keeps their answers. It fails only for want of memory for those, and not where there is
-// room for them.
+// room for them; the call whose answer found no room was then made, and is the last.
 pub fn make_all<M: Memory>(
     panel: &mut Panel<M>,
     calls: &[Call<'_>],
@@ -20,6 +20,7 @@ pub fn make_all<M: Memory>(
     ensures replayed { OnOk result (Replayed (seen M.bytes panel.old) (map call_of calls.now) (map reply_of answers.old.items) (seen M.bytes panel.new) (map reply_of answers.new.items)) }
     ensures room { vec_len answers.old + length calls.now ≤ vec_capacity answers.old → is_ok result ≡ true }
     ensures fewer { OnErr result (vec_len answers.new < vec_len answers.old + length calls.now) }
+    ensures gave_up { OnErr result (GaveUp (seen M.bytes panel.old) (map call_of calls.now) (map reply_of answers.old.items) (seen M.bytes panel.new) (map reply_of answers.new.items)) }
 {
     for call in calls {
         answers.push(panel.make(*call))?;
@@ -46,6 +47,7 @@ pub fn replay_on_new<M: Memory>(
     ensures replayed { result.whole ≡ true → Replayed (fresh (M.bytes memory)) (map call_of calls.now) [] (seen M.bytes result.panel) (map reply_of result.answers.items) }
     ensures room { length calls.now ≤ vec_capacity answers → result.whole ≡ true }
     ensures fewer { result.whole ≡ false → vec_len result.answers < length calls.now }
+    ensures gave_up { result.whole ≡ false → GaveUp (fresh (M.bytes memory)) (map call_of calls.now) [] (seen M.bytes result.panel) (map reply_of result.answers.items) }
 {
     let mut panel = Panel::new(memory);
     answers.clear();
