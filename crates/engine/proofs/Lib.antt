@@ -1,3 +1,4 @@
 pub mod Painting
 pub mod Orders
 pub mod Laws
+pub mod Wholes

@@ -1,13 +1,14 @@
 -- Laws of drawing.
-use Rattle.std.specs.Prelude.{◌≡◌, ℕ, ◌+◌, ◌*◌, ◌%◌, ◌^◌, ◌<◌, ◌≤◌, List, length, Some, None, Option, slice_index}
+use Rattle.std.specs.Prelude.{◌≡◌, ℕ, ◌+◌, ◌*◌, ◌%◌, ◌^◌, ◌<◌, ◌≤◌, true, List, [], ◌++◌, length, Some, None, Option, slice_index}
 use Rattle.feeding.specs.Feeding.{InParts}
 use Rattle.colour.specs.declared.Colour.{Colour}
 use Rattle.colour.specs.declared.Palette.{Palette}
 use Rattle.window.specs.Apart.{Off}
 use Rattle.window.specs.Places.{pixels, place, reach}
 use Rattle.window.specs.Values.{value_at}
+use Rattle.source.specs.Origins.{awaited}
 use Rattle.engine.specs.Painted.{Op, yielded, plotted, painted}
-use Rattle.engine.specs.Fed.{takes_at, byte_come}
+use Rattle.engine.specs.Fed.{Stage, takes, due, takes_at, byte_come, fed}
 
 -- where pixel k of an operation's window begins
 abbrev pub pixel_at : Op → ℕ → ℕ
@@ -45,3 +46,19 @@ pub record OnlyPixels (o : Op) (first count : ℕ) (m n : List ℕ) : Type 0 whe
 -- bytes may be fed in parts: xs and then ys have the effect of both together, and as many of them are taken
 abbrev pub FeedsInParts : Op → Palette → Type 0
 FeedsInParts o p = InParts (takes_at o) (byte_come o p)
+
+-- the bytes of a whole pixel or unit, the last of which come at s, lead to t
+pub record WholeCome (o : Op) (p : Palette) (s : Stage) (bytes : List ℕ) (t : Stage) : Type 0 where
+  -- each pixel that they serve holds what its rule yielded for the number that they hold, read as a pixel in memory is and not
+  -- by the definition that feeding goes by, so that a wrong order of bytes there breaks the law
+  pub holds : PixelsHold o p (value_at bytes 0 (length bytes)) s.drawn (due o s.drawn) s.memory t.memory
+  -- these pixels are drawn
+  pub drawn_is : t.drawn ≡ s.drawn + due o s.drawn
+  -- and no byte waits
+  pub none_waits : t.waiting ≡ []
+
+-- where bytes are taken, the last ones of a whole pixel or unit do that, together with those that wait
+abbrev pub WholesHold : Op → Palette → Type 0
+WholesHold o p =
+    (s : Stage) (bytes : List ℕ) → takes o s.drawn ≡ true → length s.waiting < awaited o.first → length s.waiting + length bytes ≡ awaited o.first
+    → WholeCome o p s (s.waiting ++ bytes) (fed o p s bytes)

@@ -2,7 +2,7 @@
 ghost use Rattle.std.specs.Prelude.{◌≡◌, ℕ, ◌+◌, ◌-◌, ◌<◌, ◌≤◌, Bool, true, false, List, [], ◌∷◌, ◌++◌, length, Some, None, nat_lt};
 ghost use Rattle.engine.specs.Painted.{op_of};
 ghost use Rattle.engine.specs.Fed.{waits, number, stage, takes, come, Feed};
-ghost use Rattle.engine.specs.Laws.{OnlyPixels, FeedsInParts};
+ghost use Rattle.engine.specs.Laws.{OnlyPixels, FeedsInParts, WholesHold};
 
 use crate::drawing::{Drawing, Progress};
 use crate::waiting::Waiting;
@@ -79,6 +79,7 @@ impl<R: PixelRule, D: Canvas> Drawing<R, D> {
         ensures feeds { Feed (op_of R.yields D.format D.narrowed self.now) palette.now (stage (M.bytes memory.old) progress.old) sent.now (stage (M.bytes memory.new) progress.new) result.0 result.1 }
         ensures only { OnlyPixels (op_of R.yields D.format D.narrowed self.now) progress.old.drawn result.1 (M.bytes memory.old) (M.bytes memory.new) }
         ensures parts { FeedsInParts (op_of R.yields D.format D.narrowed self.now) palette.now }
+        ensures holds { WholesHold (op_of R.yields D.format D.narrowed self.now) palette.now }
     {
         let before = progress.drawn;
         for (taken, byte) in sent.iter().enumerate() {
