@@ -6,11 +6,11 @@ use Rattle.formats.specs.Laws.{depth_keeps}
 use Rattle.source.specs.Origins.{image}
 use Rattle.complete.specs.Complete.{Way}
 use Rattle.complete.specs.Undo.{IsExclusiveOr}
-use Rattle.complete.specs.Laws.{Undone}
+use Rattle.complete.specs.Laws.{Undone, ExclusiveOrUndoesItself}
 use Rattle.job.specs.declared.settings.Settings.{Settings}
 use Rattle.job.specs.Operations.{either, uses_second, blends}
 use Rattle.job.specs.Plans.{depth_at, area_at, plan_at, op_at}
-use Rattle.complete_jobs.specs.Undo.{ExclusiveOrSettings, SettingsUndone}
+use Rattle.complete_jobs.specs.Undo.{ExclusiveOrSettings, SettingsUndone, SettingsUndoThemselves}
 
 no_overlay : (k : ℕ) → k ≤ 2 → either 4 5 k ≡ false
 no_overlay k h = grind (arith, nat_tests)
@@ -30,3 +30,7 @@ module _ (s : Settings) (x : ExclusiveOrSettings s) where
 
 pub settings_undone : (a a' : Way) (m n : List ℕ) (complete : Bool) → Undone a a' m complete n → SettingsUndone a a' m complete n
 settings_undone a a' m n complete undone s is x same = undone same (subst IsExclusiveOr (sym is) (exclusive_or_settings s x))
+
+pub settings_undo_themselves : ExclusiveOrUndoesItself → SettingsUndoThemselves
+settings_undo_themselves law s a a' m l n sound early late is x same apart =
+    law a a' m l n sound early late same (subst IsExclusiveOr (sym is) (exclusive_or_settings s x)) apart

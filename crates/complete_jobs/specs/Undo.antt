@@ -1,6 +1,7 @@
 -- Settings that mean an exclusive or.
 use Rattle.std.specs.Prelude.{◌≡◌, ℕ, ◌≤◌, Bool, true, List}
-use Rattle.complete.specs.Complete.{Way, Same}
+use Rattle.memory.specs.Bytes.{Sound}
+use Rattle.complete.specs.Complete.{Way, Completes, Same}
 use Rattle.complete.specs.Undo.{SourceApart}
 use Rattle.job.specs.declared.settings.Settings.{Settings}
 use Rattle.job.specs.Operations.{any}
@@ -19,3 +20,9 @@ pub record ExclusiveOrSettings (s : Settings) : Type 0 where
 abbrev pub SettingsUndone : Way → Way → List ℕ → Bool → List ℕ → Type 0
 SettingsUndone a a' m complete n =
     (s : Settings) → a.operation ≡ op_at (plan_at s) → ExclusiveOrSettings s → Same a a' → SourceApart a.operation → complete ≡ true → n ≡ m
+
+-- so it is of such drawings however each was made
+abbrev pub SettingsUndoThemselves : Type 0
+SettingsUndoThemselves =
+    (s : Settings) (a a' : Way) (m l n : List ℕ)
+    → Sound m → Completes a m l → Completes a' l n → a.operation ≡ op_at (plan_at s) → ExclusiveOrSettings s → Same a a' → SourceApart a.operation → n ≡ m

@@ -7,7 +7,7 @@ ghost use Rattle.job.specs.Plans.{op_at};
 ghost use Rattle.job.specs.Works.{serves, stage_of, at_stage};
 ghost use Rattle.complete.specs.Laws.{DrawnByBoth};
 ghost use Rattle.complete_jobs.specs.Ways.{way_of};
-ghost use Rattle.complete_jobs.specs.Undo.{SettingsUndone};
+ghost use Rattle.complete_jobs.specs.Undo.{SettingsUndone, SettingsUndoThemselves};
 
 use colour::Palette;
 use complete::{CompleteOperation, Drawn, Part, twice};
@@ -82,6 +82,7 @@ pub fn settings_twice<V: CompleteOperation, W: CompleteOperation, M: Memory>(
 ) -> Drawn<M>
     ensures drawn { DrawnByBoth (V.way operation.now) (W.way again.now) (M.bytes memory) (M.bytes result.memory) result.complete }
     ensures undone { SettingsUndone (V.way operation.now) (W.way again.now) (M.bytes memory) result.complete (M.bytes result.memory) }
+    ensures law { SettingsUndoThemselves }
 {
     twice(operation, again, memory)
 }
