@@ -1,11 +1,11 @@
 -- What each of the seven calls answers, and what it leaves.
-use Rattle.std.specs.Prelude.{◌≡◌, ℕ, ◌≤◌, Some, None, Ok, Err, Option, Result}
+use Rattle.std.specs.Prelude.{◌≡◌, ℕ, ◌≤◌, cond, List, fold, Some, None, Ok, Err, Option, Result}
 use Rattle.memory.specs.Bytes.{read_at}
 use Rattle.panel_calls.specs.Calls.{Call}
 use Rattle.panel_calls.specs.Calls as call
 use Rattle.panel_calls.specs.Replies.{Reply}
 use Rattle.panel_calls.specs.Replies as reply
-use Rattle.panel.specs.State.{State, answer_of, after_of, written, register_read, burst_answer, burst_after, run_answer, run_after, stop_answer, stopped, status_of}
+use Rattle.panel.specs.State.{State, fresh, starts, answer_of, after_of, written, register_read, burst_answer, burst_after, run_answer, run_after, stop_answer, stopped, status_of}
 
 abbrev pub answered : State → Call → Reply
 answered s (call.write r v) = reply.write (answer_of (written s r v))
@@ -45,7 +45,18 @@ abbrev pub DeclinedChangesNothing : Option ℕ → State → State → Type 0
 DeclinedChangesNothing None s t = Unit {0}
 DeclinedChangesNothing (Some n) s t = t ≡ s
 
--- a call that is declined is declined by one of the twelve numbers
-abbrev pub Listed : Option ℕ → Type 0
-Listed None = Unit {0}
-Listed (Some n) = (1 ≤ n) × (n ≤ 12)
+-- the numbers that a call can be declined with: those from 3 to 8 are of starts alone
+abbrev pub OwnNumber : Call → ℕ → Type 0
+OwnNumber (call.write r v) n = (1 ≤ n) × (n ≤ cond (starts r v) 8 2)
+OwnNumber (call.read r) n = n ≡ 1
+OwnNumber (call.burst xs) n = n ≡ 9
+OwnNumber (call.run k) n = n ≡ 10
+OwnNumber call.stop n = n ≡ 11
+OwnNumber call.status n = ⊥
+OwnNumber (call.memory a) n = n ≡ 12
+
+-- calls on a new panel came to this state: so what is under way was cleared for this memory, which a state by itself need not say
+pub record Reached (s : State) : Type 0 where
+  pub memory : List ℕ
+  pub made : List Call
+  pub is : s ≡ fold left_by (fresh memory) made
