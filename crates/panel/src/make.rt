@@ -38,7 +38,7 @@ impl<M: Memory> Panel<M> {
         ensures answer { reply_of result ≡ answered (seen M.bytes self.old) (call_of call.entry) }
         ensures after { seen M.bytes self.new ≡ left_by (seen M.bytes self.old) (call_of call.entry) }
         ensures declined { DeclinedChangesNothing (declined_by (reply_of result)) (seen M.bytes self.old) (seen M.bytes self.new) }
-        ensures own { Reached (seen M.bytes self.old) → IfSome (declined_by (reply_of result)) (OwnNumber (call_of call.entry)) }
+        ensures own { Reached (seen M.bytes self.old) → IfSome (declined_by (reply_of result)) (OwnNumber (seen M.bytes self.old).doing (call_of call.entry)) }
     {
         self.dispatch(call)
     }
