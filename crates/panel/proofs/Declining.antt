@@ -1,48 +1,16 @@
--- A declined call changes nothing, and its number is one of the twelve.
-use Rattle.std.proofs.Common.{◌≡◌, ℕ, ◌-◌, ◌≤◌, min, Bool, true, false, cond, ◌&&◌, List, Some, None, Ok, Err, Option, Result, sym, refl, subst, lit≤}
-use Rattle.refusal.specs.declared.Refusal.{Refusal}
-use Rattle.refusal.specs.declared.Refusal.TheVariants.{NoSuchRegister, Busy, NoSuchOperation, DepthNotTaken, StartBitPastUnit, LevelTooHigh, OutsideWindowLimits, PastMemory, NoByteAwaited, NothingToRun, NothingUnderWay, NoSuchAddress}
-use Rattle.refusal.specs.Numbers.{number_of, numbered}
+-- A declined call changes nothing.
+use Rattle.std.proofs.Common.{◌≡◌, ℕ, ◌-◌, min, Bool, true, false, cond, ◌&&◌, List, Some, None, Ok, Err, Option, Result, sym, refl, subst}
 use Rattle.colour.specs.declared.Palette.{Palette}
 use Rattle.engine.specs.Fed.{bytes_taken}
 use Rattle.memory.specs.Bytes.{read_at}
 use Rattle.panel_calls.specs.Calls.{Call, write, read, burst, run, stop, status, memory}
-use Rattle.panel_calls.specs.declared.Answer.{Answer}
-use Rattle.panel_calls.specs.declared.Answer.TheVariants as answer
-use Rattle.panel_calls.specs.Replies.{Reply, reply_of}
+use Rattle.panel_calls.specs.Replies.{Reply}
 use Rattle.job.specs.Plans.{op_at}
 use Rattle.job.specs.Works.{serves, awaits, runs, left, stage_of, fed_stage}
 use Rattle.panel.specs.declared.activity.Activity.{Activity}
 use Rattle.panel.specs.declared.activity.Activity.TheVariants.{Idle, Drawing, Awaiting, PaletteLoad}
 use Rattle.panel.specs.State.{State, written, answer_of, after_of, register_read, burst_answer, burst_after, run_answer, run_after, fed_in, ran, stop_answer}
-use Rattle.panel.specs.Calls.{answered, left_by, refusal_in, declined_by, DeclinedChangesNothing, Listed}
-
-number_listed : (e : Refusal) → (1 ≤ number_of e) × (number_of e ≤ 12)
-number_listed NoSuchRegister = (lit≤ tt, lit≤ tt)
-number_listed Busy = (lit≤ tt, lit≤ tt)
-number_listed NoSuchOperation = (lit≤ tt, lit≤ tt)
-number_listed DepthNotTaken = (lit≤ tt, lit≤ tt)
-number_listed StartBitPastUnit = (lit≤ tt, lit≤ tt)
-number_listed LevelTooHigh = (lit≤ tt, lit≤ tt)
-number_listed OutsideWindowLimits = (lit≤ tt, lit≤ tt)
-number_listed PastMemory = (lit≤ tt, lit≤ tt)
-number_listed NoByteAwaited = (lit≤ tt, lit≤ tt)
-number_listed NothingToRun = (lit≤ tt, lit≤ tt)
-number_listed NothingUnderWay = (lit≤ tt, lit≤ tt)
-number_listed NoSuchAddress = (lit≤ tt, lit≤ tt)
-
-in_listed : {A : Type 0} (r : Result A Refusal) → Listed (refusal_in (numbered r))
-in_listed (Ok x) = tt
-in_listed (Err e) = number_listed e
-
-pub listed : (a : Answer) → Listed (declined_by (reply_of a))
-listed (answer.Write r) = in_listed r
-listed (answer.Read r) = in_listed r
-listed (answer.Burst r) = in_listed r
-listed (answer.Run r) = in_listed r
-listed (answer.Stop r) = in_listed r
-listed (answer.Status v) = tt
-listed (answer.Memory r) = in_listed r
+use Rattle.panel.specs.Calls.{answered, left_by, refusal_in, declined_by, DeclinedChangesNothing}
 
 -- a call that changes nothing at all
 same : (o : Option ℕ) (s : State) → DeclinedChangesNothing o s s

@@ -1,1 +1,2 @@
 pub mod Declining
+pub mod OwnNumbers

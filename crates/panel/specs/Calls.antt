@@ -1,11 +1,13 @@
 -- What each of the seven calls answers, and what it leaves.
-use Rattle.std.specs.Prelude.{◌≡◌, ℕ, ◌≤◌, Some, None, Ok, Err, Option, Result}
+use Rattle.std.specs.Prelude.{◌≡◌, ℕ, ◌≤◌, Bool, true, false, cond, List, fold, Some, None, Ok, Err, Option, Result}
 use Rattle.memory.specs.Bytes.{read_at}
 use Rattle.panel_calls.specs.Calls.{Call}
 use Rattle.panel_calls.specs.Calls as call
 use Rattle.panel_calls.specs.Replies.{Reply}
 use Rattle.panel_calls.specs.Replies as reply
-use Rattle.panel.specs.State.{State, answer_of, after_of, written, register_read, burst_answer, burst_after, run_answer, run_after, stop_answer, stopped, status_of}
+use Rattle.panel.specs.declared.activity.Activity.{Activity}
+use Rattle.panel.specs.declared.activity.Activity.TheVariants.{Idle, Drawing, Awaiting, PaletteLoad}
+use Rattle.panel.specs.State.{State, fresh, busy, starts, answer_of, after_of, written, register_read, burst_answer, burst_after, run_answer, run_after, stop_answer, stopped, status_of}
 
 abbrev pub answered : State → Call → Reply
 answered s (call.write r v) = reply.write (answer_of (written s r v))
@@ -45,7 +47,33 @@ abbrev pub DeclinedChangesNothing : Option ℕ → State → State → Type 0
 DeclinedChangesNothing None s t = Unit {0}
 DeclinedChangesNothing (Some n) s t = t ≡ s
 
--- a call that is declined is declined by one of the twelve numbers
-abbrev pub Listed : Option ℕ → Type 0
-Listed None = Unit {0}
-Listed (Some n) = (1 ≤ n) × (n ≤ 12)
+-- bytes are awaited, of an operation or a palette
+abbrev pub awaiting : Activity → Bool
+awaiting Idle = false
+awaiting (Drawing _) = false
+awaiting (Awaiting _) = true
+awaiting (PaletteLoad _) = true
+
+-- an operation that memory serves is under way
+abbrev pub drawing : Activity → Bool
+drawing Idle = false
+drawing (Drawing _) = true
+drawing (Awaiting _) = false
+drawing (PaletteLoad _) = false
+
+-- the numbers that a call can be declined with, and when: those from 3 to 8 are of starts alone
+abbrev pub OwnNumber : Activity → Call → ℕ → Type 0
+OwnNumber d (call.write r v) n = (1 ≤ n) × (n ≤ cond (starts r v) 8 2)
+OwnNumber d (call.read r) n = n ≡ 1
+OwnNumber d (call.burst xs) n = (awaiting d ≡ false) × (n ≡ 9)
+OwnNumber d (call.run k) n = (drawing d ≡ false) × (n ≡ 10)
+OwnNumber d call.stop n = (busy d ≡ false) × (n ≡ 11)
+OwnNumber d call.status n = ⊥
+OwnNumber d (call.memory a) n = n ≡ 12
+
+-- calls left a new panel in this state: so what is under way was cleared for this memory and has pixels left, which a state by
+-- itself need not say
+pub record Reached (s : State) : Type 0 where
+  pub memory : List ℕ
+  pub made : List Call
+  pub is : s ≡ fold left_by (fresh memory) made

@@ -1,7 +1,8 @@
 use Rattle.panel_calls.specs.Calls.{call_of}
 use Rattle.panel_calls.specs.Replies.{reply_of}
 use Rattle.panel.specs.State.{seen}
-use Rattle.panel.proofs.Declining.{listed, declined_same}
+use Rattle.panel.proofs.Declining.{declined_same}
+use Rattle.panel.proofs.OwnNumbers.{own_number}
 use Rattle.panel.proofs.panel.Panel.make.Goals as goal
 
 pub returns : goal.returns
@@ -13,5 +14,5 @@ returns g c =
       declined =
           declined_same (seen g.M.Memory.bytes c.args.self.now) (seen g.M.Memory.bytes c.dispatch.new.self) (call_of c.args.call) (reply_of c.dispatch.result)
           facts.answer facts.after;
-      listed = listed c.dispatch.result;
+      own = own_number (seen g.M.Memory.bytes c.args.self.now) (call_of c.args.call) (reply_of c.dispatch.result) facts.answer;
     }
