@@ -119,7 +119,12 @@ fn fill_over_less(rt: HostRuntime) -> Result<(), Fail> {
     ];
     assert_eq!(rt;
         (declined, fed, drawn, runs),
-        ([Err(TOO_SMALL); 2], Err(TOO_SMALL), 0, [Ok(2), Err(TOO_SMALL)])
+        (
+            [Err(TOO_SMALL); 2],
+            Err(TOO_SMALL),
+            0,
+            [Ok(2), Err(TOO_SMALL)]
+        )
     );
     assert_eq!(rt; (less, block), ([5, 5], [0xFF, 0xFF, 7]));
     Ok(())
@@ -144,7 +149,11 @@ fn host_over_less(rt: HostRuntime) -> Result<(), Fail> {
     ];
     assert_eq!(rt;
         (first, ran, last),
-        ([Ok((1, 0)), Err(TOO_SMALL)], Err(TOO_SMALL), [Ok((1, 1)), Err(TOO_SMALL)])
+        (
+            [Ok((1, 0)), Err(TOO_SMALL)],
+            Err(TOO_SMALL),
+            [Ok((1, 1)), Err(TOO_SMALL)]
+        )
     );
     assert_eq!(rt; (less, block), ([5, 5], [3, 7, 7]));
     Ok(())
