@@ -1,16 +1,18 @@
 -- Lines that are obeyed and answered one after another.
 use Rattle.std.proofs.Common.{◌≡◌, ℕ, List, [], ◌∷◌, ◌++◌, map, Result, Ok, Err, OnErr, sym, ap, ◌∙◌, append_assoc, append-nil}
-use Rattle.std.specs.List.{fold}
+use Rattle.std.proofs.lemmas.Grind.{flat_map-append}
+use Rattle.std.specs.List.{fold, flat_map, scan}
 use Rattle.std.proofs.lemmas.List.{map-append}
 use Rattle.std.proofs.lemmas.List.Sums.{fold-append}
 use Rattle.panel.specs.State.{State}
+use Rattle.panel.proofs.Scans.{scan_more}
 use Rattle.bench_lines.specs.Answers.{reply_line}
 use Rattle.bench_lines.specs.Commands.{command_of}
 use Rattle.bench.specs.Replies.{line_reply, line_after}
 use Rattle.bench.specs.Scripts.{transcript, end_of, Replayed, GaveUp}
 
 -- of the lines ls, all but `left` were obeyed and answered
-pub record Underway (s : State) (ls : List (List ℕ)) (before : List ℕ) (t : State) (written : List ℕ) (left : List (List ℕ)) : Type 0 where
+pub record DoneSoFar (s : State) (ls : List (List ℕ)) (before : List ℕ) (t : State) (written : List ℕ) (left : List (List ℕ)) : Type 0 where
   pub done : List (List ℕ)
   pub all : ls ≡ done ++ left
   pub so_far : Replayed s done before t written
@@ -20,12 +22,13 @@ end_more s ls l = ap (fold line_after s) (map-append command_of ls (l ∷ [])) �
 
 transcript_more : (s : State) (ls : List (List ℕ)) (l : List ℕ)
     → transcript s (ls ++ l ∷ []) ≡ transcript s ls ++ reply_line (line_reply (end_of s ls) (command_of l))
-transcript_more s [] l = append-nil (reply_line (line_reply s (command_of l)))
-transcript_more s (x ∷ xs) l =
-    let answer = reply_line (line_reply s (command_of x)) in
-    let next = line_after s (command_of x) in
-    ap (λ w. answer ++ w) (transcript_more next xs l)
-    ∙ sym (append_assoc answer (transcript next xs) (reply_line (line_reply (end_of next xs) (command_of l))))
+transcript_more s ls l =
+    let cs = map command_of ls in
+    let c = command_of l in
+    ap (λ xs. flat_map reply_line (scan line_after line_reply s xs)) (map-append command_of ls (l ∷ []))
+    ∙ ap (flat_map reply_line) (scan_more line_after line_reply s cs c)
+    ∙ flat_map-append reply_line (scan line_after line_reply s cs) (line_reply (end_of s ls) c ∷ [])
+    ∙ ap (λ w. transcript s ls ++ w) (append-nil (reply_line (line_reply (end_of s ls) c)))
 
 -- what holds in any case holds of an error
 pub on_err : {T E P : Type 0} (r : Result T E) → P → OnErr r P
@@ -33,8 +36,8 @@ on_err (Ok _) p = tt
 on_err (Err _) p = p
 
 module _ {s : State} {ls : List (List ℕ)} {before : List ℕ} {t : State} {written : List ℕ} where
-  pub obeyed : (l : List ℕ) (left : List (List ℕ)) → Underway s ls before t written (l ∷ left)
-      → Underway s ls before (line_after t (command_of l)) (written ++ reply_line (line_reply t (command_of l))) left
+  pub obeyed : (l : List ℕ) (left : List (List ℕ)) → DoneSoFar s ls before t written (l ∷ left)
+      → DoneSoFar s ls before (line_after t (command_of l)) (written ++ reply_line (line_reply t (command_of l))) left
   obeyed l left u =
       let answer = reply_line (line_reply (end_of s u.done) (command_of l)) in
       record {
@@ -47,7 +50,7 @@ module _ {s : State} {ls : List (List ℕ)} {before : List ℕ} {t : State} {wri
         };
       }
 
-  pub stopped : (l : List ℕ) (left : List (List ℕ)) → Underway s ls before t written (l ∷ left) → GaveUp s ls before (line_after t (command_of l)) written
+  pub stopped : (l : List ℕ) (left : List (List ℕ)) → DoneSoFar s ls before t written (l ∷ left) → GaveUp s ls before (line_after t (command_of l)) written
   stopped l left u = record {
     first = u.done;
     last = l;

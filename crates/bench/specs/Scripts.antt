@@ -28,14 +28,15 @@ pub record Replayed (s : State) (ls : List (List ℕ)) (before : List ℕ) (t : 
   pub answers : written ≡ before ++ transcript s ls
   pub panel : t ≡ end_of s ls
 
--- the first of the lines ls were answered
+-- there was no room for the answer to `last`: those before it were answered
 pub record AnsweredFirst (s : State) (ls : List (List ℕ)) (before written : List ℕ) : Type 0 where
   pub first : List (List ℕ)
+  pub last : List ℕ
   pub rest : List (List ℕ)
-  pub all : ls ≡ first ++ rest
+  pub all : ls ≡ first ++ last ∷ rest
   pub answers : written ≡ before ++ transcript s first
 
--- there was no room for an answer: the lines before `last` were obeyed and answered, and `last` was obeyed
+-- and of the panel: the lines before `last` were obeyed, and `last` was
 pub record GaveUp (s : State) (ls : List (List ℕ)) (before : List ℕ) (t : State) (written : List ℕ) : Type 0 where
   pub first : List (List ℕ)
   pub last : List ℕ

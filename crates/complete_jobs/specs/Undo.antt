@@ -21,7 +21,7 @@ abbrev pub SettingsUndone : Way → Way → List ℕ → Bool → List ℕ → T
 SettingsUndone a a' m complete n =
     (s : Settings) → a.operation ≡ op_at (plan_at s) → ExclusiveOrSettings s → Same a a' → SourceApart a.operation → complete ≡ true → n ≡ m
 
--- so it is of such drawings however each was made
+-- so it is of such drawings however each was made; m is what a memory holds
 abbrev pub SettingsUndoThemselves : Type 0
 SettingsUndoThemselves =
     (s : Settings) (a a' : Way) (m l n : List ℕ)

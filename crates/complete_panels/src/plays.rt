@@ -99,7 +99,7 @@ fn is_ready<M: Memory>(panel: &Panel<M>) -> bool
 }
 
 // Draws an operation on a panel as it is, by a start and then bursts and runs. Answers whether it was accepted and has
-// ended; on an idle panel that is a complete operation.
+// ended; if it answers so on a panel that was idle, the operation is complete.
 #[tactic(auto, using(crate::proofs::Starting::declined))]
 pub fn draw_on<M: Memory>(panel: &mut Panel<M>, large: bool, parts: &[Part<'_>]) -> bool
     ensures answer { result ≡ finished (seen M.bytes panel.old) large (map portion_of parts.now) }

@@ -79,7 +79,7 @@ impl<R: PixelRule, D: Canvas> Drawing<R, D> {
         ensures feeds { Feed (op_of R.yields D.format D.narrowed self.now) palette.now (stage (M.bytes memory.old) progress.old) sent.now (stage (M.bytes memory.new) progress.new) result.0 result.1 }
         ensures only { OnlyPixels (op_of R.yields D.format D.narrowed self.now) progress.old.drawn result.1 (M.bytes memory.old) (M.bytes memory.new) }
         ensures parts { FeedsInParts (op_of R.yields D.format D.narrowed self.now) palette.now }
-        ensures holds { WholesHold (op_of R.yields D.format D.narrowed self.now) palette.now }
+        ensures wholes { WholesHold (op_of R.yields D.format D.narrowed self.now) palette.now }
     {
         let before = progress.drawn;
         for (taken, byte) in sent.iter().enumerate() {

@@ -8,8 +8,8 @@ use colour::{Canvas, Readable};
 use rules::PixelRule;
 
 impl<R: PixelRule, D: Canvas> Drawing<R, D> {
-    // Whether the target and the windows and bits that are read lie inside a memory of some size. All that is read then does, if a source
-    // window has the target's sides.
+    // Whether the target and the windows and bits that are read lie inside a memory of some size. Then all that is
+    // read lies there too, if a source window has the target's sides and rows of bits have its columns.
     pub fn lies_inside(&self, size: u32) -> bool
         ensures { result ≡ lies_inside (op_of R.yields D.format D.narrowed self.now) size }
     {

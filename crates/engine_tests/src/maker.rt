@@ -1,4 +1,4 @@
-// Pictures worked by hand. Bytes are written as they lie in memory, low byte first.
+// Pictures in a maker's own format, worked by hand. Bytes are written as they lie in memory, low byte first.
 use blue_first::Bgr565;
 use colour::Palette;
 use engine::{Drawing, Progress};

@@ -1,4 +1,4 @@
-// Pictures worked by hand. Bytes are written as they lie in memory, low byte first.
+// Operations by the engine, in both orders and twice, worked by hand. Bytes are written as they lie in memory, low byte first.
 use blue_first::Bgr565;
 use colour::Palette;
 use complete::{

@@ -1,2 +1,3 @@
 pub mod Declining
 pub mod OwnNumbers
+pub mod Scans

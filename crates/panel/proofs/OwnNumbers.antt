@@ -1,5 +1,5 @@
 -- In whatever state calls have left a new panel, a call is declined with a number of its own.
-use Rattle.std.proofs.Common.{◌≡◌, ℕ, ◌-◌, ◌≤◌, min, Bool, true, false, cond, ◌&&◌, List, [], ◌∷◌, length, leb, ltb as nat_lt, slice_index, is_some, fold, Some, None, Ok, Err, Option, Result, IfSome, refl, sym, ap, ◌∙◌, ◌==◌, subst, lit≤, arith}
+use Rattle.std.proofs.Common.{◌≡◌, ℕ, ◌-◌, ◌≤◌, min, Bool, true, false, cond, ◌&&◌, List, [], ◌∷◌, length, leb, ltb as nat_lt, slice_index, is_some, Some, None, Ok, Err, Option, Result, IfSome, refl, sym, ap, ◌∙◌, ◌==◌, subst, lit≤, arith}
 use Rattle.std.proofs.Math.Nat.{le-mul_of_pos_right}
 use Rattle.std.proofs.lemmas.Bool.{cond_both}
 use Rattle.std.proofs.lemmas.Bool.Decides.{nat_tests}
@@ -21,7 +21,7 @@ use Rattle.panel.specs.declared.activity.Activity.{Activity}
 use Rattle.panel.specs.declared.activity.Activity.TheVariants.{Idle, Drawing, Awaiting, PaletteLoad}
 use Rattle.panel.specs.Registers.{exists, settings_of}
 use Rattle.panel.specs.State.{State, fresh, busy, with_doing, with_register, starts, opens, started_in, started, written, new_load, under_way, shown, answer_of, after_of, burst_answer, burst_after, run_answer, run_after, fed_in, ran, stop_answer}
-use Rattle.panel.specs.Calls.{awaiting, drawing, answered, left_by, refusal_in, declined_by, OwnNumber, Reached}
+use Rattle.panel.specs.Calls.{awaiting, drawing, answered, left_by, refusal_in, declined_by, OwnNumber, ends, LeftByCalls}
 
 -- memory serves what is under way, and there is something left of it
 abbrev Served : List ℕ → Activity → Type 0
@@ -131,9 +131,9 @@ module _ (s : State) (f : Fits s) where
   call_so status = (f, tt)
   call_so (memory a) = (f, read_so (nat_lt a (length s.memory)) (slice_index s.memory a) 12)
 
-all_so : (s : State) (cs : List Call) → Fits s → Fits (fold left_by s cs)
+all_so : (s : State) (cs : List Call) → Fits s → Fits (ends s cs)
 all_so s [] f = f
 all_so s (c ∷ cs) f = all_so (left_by s c) cs (call_so s f c).0
 
-pub own_number : (s : State) (c : Call) (q : Reply) → q ≡ answered s c → Reached s → IfSome (declined_by q) (OwnNumber s.doing c)
+pub own_number : (s : State) (c : Call) (q : Reply) → q ≡ answered s c → LeftByCalls s → IfSome (declined_by q) (OwnNumber s.doing c)
 own_number s c q e r = rw e (call_so s (subst Fits (sym r.is) (all_so (fresh r.memory) r.made tt)) c).1

@@ -61,7 +61,7 @@ drawing (Drawing _) = true
 drawing (Awaiting _) = false
 drawing (PaletteLoad _) = false
 
--- the numbers that a call can be declined with, and when: those from 3 to 8 are of starts alone
+-- the numbers that a call can be declined with, and of a burst, a run and a stop in which states; those from 3 to 8 are of starts alone
 abbrev pub OwnNumber : Activity → Call → ℕ → Type 0
 OwnNumber d (call.write r v) n = (1 ≤ n) × (n ≤ cond (starts r v) 8 2)
 OwnNumber d (call.read r) n = n ≡ 1
@@ -71,9 +71,13 @@ OwnNumber d call.stop n = (busy d ≡ false) × (n ≡ 11)
 OwnNumber d call.status n = ⊥
 OwnNumber d (call.memory a) n = n ≡ 12
 
--- calls left a new panel in this state: so what is under way was cleared for this memory and has pixels left, which a state by
--- itself need not say
-pub record Reached (s : State) : Type 0 where
+-- the panel after some calls
+abbrev pub ends : State → List Call → State
+ends s cs = fold left_by s cs
+
+-- calls left a new panel in this state: so an operation under way was cleared for a memory of this size and has pixels left, which
+-- a state by itself need not say
+pub record LeftByCalls (s : State) : Type 0 where
   pub memory : List ℕ
   pub made : List Call
-  pub is : s ≡ fold left_by (fresh memory) made
+  pub is : s ≡ ends (fresh memory) made

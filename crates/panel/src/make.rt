@@ -3,7 +3,7 @@ ghost use Rattle.std.specs.Prelude.{◌≡◌, IfSome};
 ghost use Rattle.panel_calls.specs.Calls.{call_of};
 ghost use Rattle.panel_calls.specs.Replies.{reply_of};
 ghost use Rattle.panel.specs.State.{seen};
-ghost use Rattle.panel.specs.Calls.{answered, left_by, declined_by, DeclinedChangesNothing, OwnNumber, Reached};
+ghost use Rattle.panel.specs.Calls.{answered, left_by, declined_by, DeclinedChangesNothing, OwnNumber, LeftByCalls};
 
 use crate::activity::Activity;
 use crate::panel::Panel;
@@ -38,7 +38,7 @@ impl<M: Memory> Panel<M> {
         ensures answer { reply_of result ≡ answered (seen M.bytes self.old) (call_of call.entry) }
         ensures after { seen M.bytes self.new ≡ left_by (seen M.bytes self.old) (call_of call.entry) }
         ensures declined { DeclinedChangesNothing (declined_by (reply_of result)) (seen M.bytes self.old) (seen M.bytes self.new) }
-        ensures own { Reached (seen M.bytes self.old) → IfSome (declined_by (reply_of result)) (OwnNumber (seen M.bytes self.old).doing (call_of call.entry)) }
+        ensures own { LeftByCalls (seen M.bytes self.old) → IfSome (declined_by (reply_of result)) (OwnNumber (seen M.bytes self.old).doing (call_of call.entry)) }
     {
         self.dispatch(call)
     }

@@ -5,7 +5,7 @@ use Rattle.feeding.specs.Feeding.{all_fed, count_taken}
 use Rattle.feeding.proofs.Feeding.{fed_ended, taken_ended, in_parts}
 use Rattle.colour.specs.declared.Palette.{Palette}
 use Rattle.palette_load.specs.Loads as load
-use Rattle.palette_load.specs.Loads.{Load, Loading, loading, unfinished, loaded_by}
+use Rattle.palette_load.specs.Loads.{Loading, loading, unfinished, loaded_by}
 use Rattle.engine.specs.Fed.{Stage, takes_at, byte_come, fed}
 use Rattle.engine.proofs.Laws.{fed_grew}
 use Rattle.job.specs.Plans.{op_at}

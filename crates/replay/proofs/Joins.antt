@@ -3,8 +3,8 @@ use Rattle.std.proofs.Common.{◌≡◌, ℕ, ◌+◌, List, [], ◌∷◌, ◌+
 use Rattle.panel_calls.specs.Calls.{Call, burst, run}
 use Rattle.panel_calls.specs.Replies.{Reply}
 use Rattle.panel.specs.State.{State, fresh}
-use Rattle.panel.specs.Calls.{answered, left_by}
-use Rattle.replay.specs.Lists.{answers, ends, Replayed}
+use Rattle.panel.specs.Calls.{answered, left_by, ends}
+use Rattle.replay.specs.Lists.{answers, Replayed}
 use Rattle.replay.specs.Cuts.{before, joined, Total, bursts, runs, total, both_sums, add, totals, Agree}
 use Rattle.replay.proofs.Bursts.{bursts_join, burst_act, burst_counts}
 use Rattle.replay.proofs.Runs.{runs_join, run_act, run_count}

@@ -1,18 +1,14 @@
 -- Lists of calls, made one after another.
-use Rattle.std.specs.Prelude.{◌≡◌, List, [], ◌∷◌, ◌++◌, fold}
+use Rattle.std.specs.Prelude.{◌≡◌, List, [], ◌∷◌, ◌++◌}
 use Rattle.std.specs.List.{scan}
 use Rattle.panel_calls.specs.Calls.{Call}
 use Rattle.panel_calls.specs.Replies.{Reply}
 use Rattle.panel.specs.State.{State}
-use Rattle.panel.specs.Calls.{answered, left_by}
+use Rattle.panel.specs.Calls.{answered, left_by, ends}
 
 -- what they answer
 abbrev pub answers : State → List Call → List Reply
 answers s cs = scan left_by answered s cs
-
--- the panel after them
-abbrev pub ends : State → List Call → State
-ends s cs = fold left_by s cs
 
 -- the calls cs were made from s on: t is the panel then, and after what was there before stand their answers
 pub record Replayed (s : State) (cs : List Call) (before : List Reply) (t : State) (after : List Reply) : Type 0 where

@@ -1,5 +1,5 @@
 // Two lists of calls that are alike but for the cuts.
-ghost use Rattle.std.specs.Prelude.{◌≡◌, ℕ, ◌<◌, ◌≤◌, true, false, List, [], map, length, vec_len, vec_capacity};
+ghost use Rattle.std.specs.Prelude.{◌≡◌, ℕ, ◌≤◌, true, false, List, [], map, length, vec_capacity};
 ghost use Rattle.panel_calls.specs.Calls.{call_of};
 ghost use Rattle.panel_calls.specs.Replies.{reply_of};
 ghost use Rattle.panel.specs.State.{seen, fresh};
@@ -31,8 +31,6 @@ pub fn replay_both<M: Memory, N: Memory>(
     ensures second { result.second.whole ≡ true → Replayed (fresh (N.Memory.bytes other)) (map call_of others.now) [] (seen N.Memory.bytes result.second.panel) (map reply_of result.second.answers.items) }
     ensures first_room { length calls.now ≤ vec_capacity answers → result.first.whole ≡ true }
     ensures second_room { length others.now ≤ vec_capacity other_answers → result.second.whole ≡ true }
-    ensures first_fewer { result.first.whole ≡ false → vec_len result.first.answers < length calls.now }
-    ensures second_fewer { result.second.whole ≡ false → vec_len result.second.answers < length others.now }
     ensures first_gave_up { result.first.whole ≡ false → GaveUp (fresh (M.Memory.bytes memory)) (map call_of calls.now) [] (seen M.Memory.bytes result.first.panel) (map reply_of result.first.answers.items) }
     ensures second_gave_up { result.second.whole ≡ false → GaveUp (fresh (N.Memory.bytes other)) (map call_of others.now) [] (seen N.Memory.bytes result.second.panel) (map reply_of result.second.answers.items) }
     ensures cuts_do_not_show { M.Memory.bytes memory ≡ N.Memory.bytes other → joined (map call_of calls.now) ≡ joined (map call_of others.now) → result.first.whole ≡ true → result.second.whole ≡ true → Agree (map reply_of result.first.answers.items) (map reply_of result.second.answers.items) (seen M.Memory.bytes result.first.panel) (seen N.Memory.bytes result.second.panel) }

@@ -1,5 +1,5 @@
 // Calls made one after another.
-ghost use Rattle.std.specs.Prelude.{◌≡◌, ℕ, ◌+◌, ◌<◌, ◌≤◌, true, false, List, [], ◌++◌, map, length, is_ok, vec_len, vec_capacity, OnErr, OnOk};
+ghost use Rattle.std.specs.Prelude.{◌≡◌, ℕ, ◌+◌, ◌≤◌, true, false, List, [], ◌++◌, map, length, is_ok, vec_len, vec_capacity, OnErr, OnOk};
 ghost use Rattle.panel_calls.specs.Calls.{call_of};
 ghost use Rattle.panel_calls.specs.Replies.{reply_of};
 ghost use Rattle.panel.specs.State.{seen, fresh};
@@ -19,7 +19,6 @@ pub fn make_all<M: Memory>(
 ) -> Result<(), AllocError>
     ensures replayed { OnOk result (Replayed (seen M.bytes panel.old) (map call_of calls.now) (map reply_of answers.old.items) (seen M.bytes panel.new) (map reply_of answers.new.items)) }
     ensures room { vec_len answers.old + length calls.now ≤ vec_capacity answers.old → is_ok result ≡ true }
-    ensures fewer { OnErr result (vec_len answers.new < vec_len answers.old + length calls.now) }
     ensures gave_up { OnErr result (GaveUp (seen M.bytes panel.old) (map call_of calls.now) (map reply_of answers.old.items) (seen M.bytes panel.new) (map reply_of answers.new.items)) }
 {
     for call in calls {
@@ -46,7 +45,6 @@ pub fn replay_on_new<M: Memory>(
 ) -> Replay<M>
     ensures replayed { result.whole ≡ true → Replayed (fresh (M.bytes memory)) (map call_of calls.now) [] (seen M.bytes result.panel) (map reply_of result.answers.items) }
     ensures room { length calls.now ≤ vec_capacity answers → result.whole ≡ true }
-    ensures fewer { result.whole ≡ false → vec_len result.answers < length calls.now }
     ensures gave_up { result.whole ≡ false → GaveUp (fresh (M.bytes memory)) (map call_of calls.now) [] (seen M.bytes result.panel) (map reply_of result.answers.items) }
 {
     let mut panel = Panel::new(memory);

@@ -1,4 +1,4 @@
-use Rattle.std.proofs.Common.{◌≡◌, ◌∷◌, replicate, ap, ◌∙◌, lit≤}
+use Rattle.std.proofs.Common.{◌≡◌, replicate, ap, ◌∙◌, lit≤}
 use Rattle.std.proofs.lemmas.Result.{on_ok_weaker, on_err_weaker}
 use Rattle.panel.specs.State.{fresh}
 use Rattle.memory.specs.Boards.{of_bytes}
@@ -11,5 +11,5 @@ returns c =
     let begun = c.new-panel.ensures ∙ ap fresh zero in
     record {
       done = on_ok_weaker c.replay.result (λ r. rw begun at r.answers) c.replay.ensures.done;
-      gave_up = on_err_weaker c.replay.result (λ r. record { first = r.first; rest = r.last ∷ r.rest; all = r.all; answers = rw begun at r.answers }) c.replay.ensures.gave_up;
+      gave_up = on_err_weaker c.replay.result (λ r. record { first = r.first; last = r.last; rest = r.rest; all = r.all; answers = rw begun at r.answers }) c.replay.ensures.gave_up;
     }

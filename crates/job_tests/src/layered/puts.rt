@@ -1,4 +1,4 @@
-// Puts and reads through a queue, a stretch, and piles of both.
+// Puts and reads through a queue, a stretch, and piles of both, and by a board that is let go.
 use crate::numbered::put_numbers;
 use layers::{Stretch, WriteQueue};
 use memory::{ByteBoard, Memory, WordBoard};

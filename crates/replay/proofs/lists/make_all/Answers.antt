@@ -13,7 +13,7 @@ loop-call-preserved g c =
     let answers = map reply_of c.loop-call.answers.items in
     let kept = ap (map reply_of) c.in_ok-push.ensures.items ∙ map-append reply_of c.loop-call.answers.items (c.make.result ∷ []) ∙ ap (λ r. answers ++ r ∷ []) c.make.ensures.answer in
     record {
-      underway = rw (c.make.ensures.after, kept) (made _ next (rw left at c.loop-call.invariant.underway));
+      so_far = rw (c.make.ensures.after, kept) (made _ next (rw left at c.loop-call.invariant.so_far));
       length_is = omega (arith, c.in_ok-push.ensures.len, c.loop-call.invariant.length_is);
       capacity = omega (arith, c.push.ensures.capacity, c.loop-call.invariant.capacity);
     }

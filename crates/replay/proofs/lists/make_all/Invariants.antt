@@ -2,7 +2,7 @@ use Rattle.std.proofs.Common.{◌≡◌, ◌+◌, ◌≤◌, map, drop, vec_item
 use Rattle.panel_calls.specs.Calls.{call_of}
 use Rattle.panel_calls.specs.Replies.{reply_of}
 use Rattle.panel.specs.State.{seen}
-use Rattle.replay.proofs.Making.{Underway}
+use Rattle.replay.proofs.Making.{DoneSoFar}
 use Rattle.replay.proofs.lists.make_all.Given as goal
 
 abbrev pub invariant-loop-call : goal.invariant-loop-call
@@ -10,7 +10,7 @@ invariant-loop-call g l =
     let bytes = g.M.Memory.bytes in
     let left = map call_of (drop l.call-index l.calls) in
     record {
-      underway : Underway (seen bytes l.initial.panel) (map call_of l.calls) (map reply_of (vec_items l.initial.answers)) (seen bytes l.panel) (map reply_of (vec_items l.answers)) left;
+      so_far : DoneSoFar (seen bytes l.initial.panel) (map call_of l.calls) (map reply_of (vec_items l.initial.answers)) (seen bytes l.panel) (map reply_of (vec_items l.answers)) left;
       length_is : vec_len l.answers ≡ vec_len l.initial.answers + l.call-index;
       capacity : vec_capacity l.initial.answers ≤ vec_capacity l.answers;
     }

@@ -24,7 +24,7 @@ returns-then-not-takes g c =
     let t = stage (g.M.Memory.bytes c.loop-taken.memory) c.loop-taken.progress in
     let all = ended (takes_at o) (byte_come o p) c.loop-taken.invariant.so_far c.if-not-takes.ensures in
     let feeds : Feed o p s c.args.sent.now t c.loop-taken.taken (t.drawn - s.drawn) = record { after = all.0; taken_is = all.1; drawn_is = refl } in
-    record { feeds = feeds; only = feed_only o p feeds; parts = in_parts (takes_at o) (byte_come o p); holds = wholes_hold o p l.width_some l.inside l.height_some }
+    record { feeds = feeds; only = feed_only o p feeds; parts = in_parts (takes_at o) (byte_come o p); wholes = wholes_hold o p l.width_some l.inside l.height_some }
 
 pub returns : goal.returns
 returns g c =
@@ -35,4 +35,4 @@ returns g c =
     let t = stage (g.M.Memory.bytes c.loop-taken.memory) c.loop-taken.progress in
     let all = all_come (takes_at o) (byte_come o p) c.loop-taken.invariant.so_far (omega arith) in
     let feeds : Feed o p s c.args.sent.now t _ (t.drawn - s.drawn) = record { after = all.0; taken_is = all.1; drawn_is = refl } in
-    record { feeds = feeds; only = feed_only o p feeds; parts = in_parts (takes_at o) (byte_come o p); holds = wholes_hold o p l.width_some l.inside l.height_some }
+    record { feeds = feeds; only = feed_only o p feeds; parts = in_parts (takes_at o) (byte_come o p); wholes = wholes_hold o p l.width_some l.inside l.height_some }
