@@ -2,3 +2,5 @@ pub mod Painting
 pub mod Orders
 pub mod Laws
 pub mod Wholes
+pub mod Bytes
+pub mod Totals

@@ -2,3 +2,4 @@ pub mod Painted
 pub mod Fed
 pub mod Laws
 pub mod Inside
+pub mod Totals

@@ -3,6 +3,7 @@ ghost use Rattle.std.specs.Prelude.{◌≡◌, ℕ, ◌+◌, ◌-◌, ◌<◌, �
 ghost use Rattle.engine.specs.Painted.{op_of};
 ghost use Rattle.engine.specs.Fed.{waits, number, stage, takes, come, Feed};
 ghost use Rattle.engine.specs.Laws.{OnlyPixels, FeedsInParts, WholesHold};
+ghost use Rattle.engine.specs.Totals.{TakesInAll};
 
 use crate::drawing::{Drawing, Progress};
 use crate::waiting::Waiting;
@@ -80,6 +81,7 @@ impl<R: PixelRule, D: Canvas> Drawing<R, D> {
         ensures only { OnlyPixels (op_of R.yields D.format D.narrowed self.now) progress.old.drawn result.1 (M.bytes memory.old) (M.bytes memory.new) }
         ensures parts { FeedsInParts (op_of R.yields D.format D.narrowed self.now) palette.now }
         ensures wholes { WholesHold (op_of R.yields D.format D.narrowed self.now) palette.now }
+        ensures in_all { TakesInAll (op_of R.yields D.format D.narrowed self.now) palette.now }
     {
         let before = progress.drawn;
         for (taken, byte) in sent.iter().enumerate() {

@@ -1,2 +1,3 @@
 pub mod Starts
 pub mod Bounds
+pub mod Past

@@ -3,7 +3,7 @@ ghost use Rattle.std.specs.Prelude.{◌≡◌, ◌≤◌, min, length, Ok};
 ghost use Rattle.engine.specs.Painted.{plotted, painted};
 ghost use Rattle.job.specs.Plans.{op_at};
 ghost use Rattle.refusal.specs.Numbers.{numbered};
-ghost use Rattle.job.specs.Bounds.{clearing_of, AcceptedInside};
+ghost use Rattle.job.specs.Bounds.{clearing_of, AcceptedInside, PastExactly, HostBytes, LimitsExactly};
 ghost use Rattle.job.specs.Works.{LiesInside, clearing, awaits, runs, left, at_stage, feed_answer, feed_after, run_answer, run_after, Ran, FedOnly};
 
 use crate::job::{Begun, Cleared, Closed, Declined, Draft};
@@ -21,9 +21,13 @@ impl Draft {
     }
 
     // Tests the draft against a memory; a declined one comes back unchanged.
+    #[tactic(auto, using(crate::proofs::Past::past_exactly, crate::proofs::Past::host_bytes, crate::proofs::Past::limits_exactly))]
     pub fn clear<M: Memory>(self, memory: &M) -> Result<Cleared, Declined>
         ensures answer { clearing_of result ≡ clearing self (length (M.bytes memory.now)) }
         ensures inside { AcceptedInside result }
+        ensures past { PastExactly self (length (M.bytes memory.now)) (clearing self (length (M.bytes memory.now))) }
+        ensures limits { LimitsExactly self (clearing self (length (M.bytes memory.now))) }
+        ensures bytes { HostBytes (clearing self (length (M.bytes memory.now))) }
     {
         let size = memory.size();
         match self.settings.clear(size) {

@@ -1,2 +1,4 @@
 pub mod Reaches
 pub mod Samples
+pub mod Pictures
+pub mod Meanings

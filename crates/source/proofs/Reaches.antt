@@ -24,7 +24,7 @@ module _ (r : Rows) (some : 1 ≤ r.unit) (across : 1 ≤ r.columns) where
       le-div (d / u + 1) (r.columns + (u - 1 - r.start) + (u - 1)) u some (omega arith)
 
   -- and of the rectangle
-  unit_inside : (height k : ℕ) → k < r.columns * height → unit_of r k + 1 ≤ row_units r * height
+  pub unit_inside : (height k : ℕ) → k < r.columns * height → unit_of r k + 1 ≤ row_units r * height
   unit_inside height k h =
       let row = div_below k r.columns height across (omega (arith, mul_comm r.columns height)) in
       let rows = mul-le (k / r.columns + 1) (row_units r) height (row_units r) (omega arith) (omega arith) in
@@ -37,11 +37,11 @@ module _ (r : Rows) (some : 1 ≤ r.unit) (across : 1 ≤ r.columns) where
       let all = mul-le (unit_of r k + 1) w (row_units r * height) w (unit_inside height k h) (omega arith) in
       omega arith
 
-unit_some : (u : Unit) → 1 ≤ unit_bits u
+pub unit_some : (u : Unit) → 1 ≤ unit_bits u
 unit_some Eight = omega arith
 unit_some Sixteen = omega arith
 
-unit_whole : (u : Unit) → unit_bits u % 8 ≡ 0
+pub unit_whole : (u : Unit) → unit_bits u % 8 ≡ 0
 unit_whole Eight = omega arith
 unit_whole Sixteen = omega arith
 

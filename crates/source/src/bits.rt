@@ -2,6 +2,7 @@
 ghost use Rattle.std.specs.Prelude.{◌≡◌, ℕ, ◌+◌, ◌-◌, ◌*◌, ◌/◌, ◌%◌, ◌^◌, ◌<◌, ◌≤◌};
 ghost use Rattle.source.specs.Units.{unit_bits};
 ghost use Rattle.source.specs.Rows.{rows_of, skipped, row_units, depth_in_row, bit_of, unit_of, unit_pixels, bit_address, rows_reach, rows_at, shown_rows};
+ghost use Rattle.source.specs.Pictures.{BitsInRowOrder, FewestUnits, GivesItsOwn};
 
 use crate::rows::{BitRows, Unit};
 use refusal::Refusal;
@@ -41,9 +42,10 @@ impl BitRows {
     }
 
     // How many units a row has.
-    #[tactic(auto, using(crate::proofs::Reaches::rounded_up))]
+    #[tactic(auto, using(crate::proofs::Reaches::rounded_up, crate::proofs::Pictures::row_fewest))]
     pub fn units(&self) -> u32
-        ensures { result ≡ row_units (rows_of self.now) }
+        ensures is { result ≡ row_units (rows_of self.now) }
+        ensures fewest { FewestUnits (rows_of self.now) result }
     {
         (self.columns as u32 + self.skipped()).div_ceil(self.unit.bits() as u32)
     }
@@ -56,16 +58,20 @@ impl BitRows {
     }
 
     // The bit of its unit that pixel k takes.
+    #[tactic(auto, using(crate::proofs::Pictures::bits_in_row_order))]
     pub fn bit(&self, k: u32) -> u32
-        ensures { result ≡ bit_of (rows_of self.now) k }
+        ensures is { result ≡ bit_of (rows_of self.now) k }
+        ensures order { BitsInRowOrder (rows_of self.now) }
     {
         let bits = self.unit.bits() as u32;
         bits - 1 - self.depth_in_row(k) % bits
     }
 
     // How many pixels a unit gives whose first pixel is k.
+    #[tactic(auto, using(crate::proofs::Pictures::row_gives))]
     pub fn unit_pixels(&self, k: u32) -> u32
-        ensures { result ≡ unit_pixels (rows_of self.now) k }
+        ensures is { result ≡ unit_pixels (rows_of self.now) k }
+        ensures own { GivesItsOwn (rows_of self.now) k result }
     {
         let bits = self.unit.bits() as u32;
         let columns = self.columns as u32;

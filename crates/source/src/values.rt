@@ -3,6 +3,8 @@ ghost use Rattle.std.specs.Prelude.{◌≡◌, ℕ, ◌/◌, ◌%◌, ◌^◌, �
 ghost use Rattle.window.specs.Values.{value_at};
 ghost use Rattle.source.specs.Origins.{origin_of, sampled, awaited, served};
 ghost use Rattle.source.specs.Reaches.{reach_of, TakenInside};
+ghost use Rattle.window.specs.Geometry.{LeastSize};
+ghost use Rattle.source.specs.Meanings.{Gives, Serves, SourceByte};
 
 use crate::rows::BitRows;
 use crate::source::Source;
@@ -28,7 +30,8 @@ fn held_at<M: Memory>(memory: &M, address: u64) -> u32
 impl Source {
     // The value of pixel k, where the host sent a number: any number where it serves nothing, since then no source takes it.
     pub fn value<M: Memory>(&self, memory: &M, sent: u32, k: u32) -> u32
-        ensures { result ≡ sampled (origin_of self.now) (M.bytes memory.now) sent k }
+        ensures is { result ≡ sampled (origin_of self.now) (M.bytes memory.now) sent k }
+        ensures gives { Gives (origin_of self.now) (M.bytes memory.now) sent }
     {
         match *self {
             Source::Unused => 0,
@@ -60,8 +63,10 @@ impl Source {
     }
 
     // How many pixels are drawn by what the host sent together, the first of them being k.
+    #[tactic(auto, using(crate::proofs::Meanings::serves))]
     pub fn served(&self, k: u32) -> u32
-        ensures { result ≡ served (origin_of self.now) k }
+        ensures is { result ≡ served (origin_of self.now) k }
+        ensures own { Serves (origin_of self.now) k result }
     {
         match *self {
             Source::Host(_) => 1,
@@ -71,10 +76,11 @@ impl Source {
     }
 
     // The first address past all that a rectangle so many rows high takes from memory.
-    #[tactic(auto, using(crate::proofs::Reaches::taken_inside))]
+    #[tactic(auto, using(crate::proofs::Reaches::taken_inside, crate::proofs::Meanings::source_least))]
     pub fn reach(&self, height: u16) -> u64
         ensures is { result ≡ reach_of (origin_of self.now) height }
         ensures inside { TakenInside (origin_of self.now) height }
+        ensures least { 1 ≤ height → LeastSize (SourceByte (origin_of self.now) height) (reach_of (origin_of self.now) height) }
     {
         match *self {
             Source::Image { window, size } => window.reach(size.bytes()),

@@ -2,3 +2,4 @@ pub mod Limits
 pub mod Values
 pub mod Frames
 pub mod Places
+pub mod Geometry

@@ -2,3 +2,4 @@ pub mod Limits
 pub mod Places
 pub mod Values
 pub mod Apart
+pub mod Geometry

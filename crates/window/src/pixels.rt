@@ -1,8 +1,9 @@
 // What a window holds, and where.
 ghost use Rattle.std.specs.Prelude.{◌≡◌, ℕ, ◌+◌, ◌*◌, ◌^◌, ◌<◌, ◌≤◌};
-ghost use Rattle.window.specs.Limits.{side, within};
+ghost use Rattle.window.specs.Limits.{side, within, WithinExactly};
 ghost use Rattle.window.specs.Places.{area_of, window_at, shown, pixels, place, cell, reach};
 ghost use Rattle.window.specs.Values.{value_at, stored};
+ghost use Rattle.window.specs.Geometry.{InRowOrder, Repeats, PixelByte, LeastSize};
 
 use crate::area::Area;
 use crate::bytes::{byte_at, put_byte};
@@ -32,8 +33,10 @@ fn is_within(limit: u16, area: Area) -> bool
 
 impl Window {
     // A window, or a refusal where a number lies outside the limits.
+    #[tactic(auto, using(crate::proofs::Geometry::within_exactly))]
     pub fn new(limit: u16, area: Area) -> Result<Window, Refusal>
-        ensures { shown result ≡ window_at limit area }
+        ensures is { shown result ≡ window_at limit area }
+        ensures exactly { WithinExactly limit area }
     {
         if !is_within(limit, area) {
             return Err(Refusal::OutsideWindowLimits);
@@ -68,8 +71,10 @@ impl Window {
 
     // The pixel of the window that stands at pixel k of a rectangle so many columns wide, where copies of the window
     // lie side by side and below one another.
+    #[tactic(auto, using(crate::proofs::Geometry::repeats))]
     pub fn cell(&self, columns: u16, k: u32) -> u32
-        ensures { result ≡ cell (area_of self.now) columns k }
+        ensures is { result ≡ cell (area_of self.now) columns k }
+        ensures repeats { Repeats (area_of self.now) columns }
     {
         let columns = columns as u32;
         if columns == 0 {
@@ -80,8 +85,10 @@ impl Window {
     }
 
     // The first address past the last pixel. Of any number of bytes, so that a caller needs no `PixelSize` to ask.
+    #[tactic(auto, using(crate::proofs::Geometry::reach_least))]
     pub fn reach(&self, bytes_per_pixel: u8) -> u64
-        ensures { result ≡ reach (area_of self.now) bytes_per_pixel }
+        ensures is { result ≡ reach (area_of self.now) bytes_per_pixel }
+        ensures least { 1 ≤ bytes_per_pixel → LeastSize (PixelByte (area_of self.now) bytes_per_pixel) result }
     {
         let last_row = self.area.top as u64 + self.area.height as u64 - 1;
         let pixels = last_row * self.area.image as u64
@@ -91,9 +98,10 @@ impl Window {
     }
 
     // The value of pixel k.
-    #[tactic(auto, using(crate::proofs::Values::value_of_bytes))]
+    #[tactic(auto, using(crate::proofs::Values::value_of_bytes, crate::proofs::Geometry::in_row_order))]
     pub fn load<M: Memory>(&self, size: PixelSize, memory: &M, k: u32) -> u32
-        ensures { result ≡ value_at (M.bytes memory.now) (place (area_of self.now) size.bytes k) size.bytes }
+        ensures order { InRowOrder (area_of self.now) size.bytes }
+        ensures is { result ≡ value_at (M.bytes memory.now) (place (area_of self.now) size.bytes k) size.bytes }
     {
         let from = self.address(size, k);
         let mut bytes = [0; 4];

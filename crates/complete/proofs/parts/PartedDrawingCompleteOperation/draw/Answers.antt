@@ -11,6 +11,6 @@ returns g c =
     let far = c.draw_parts-progress.result in
     drawn_inside (op_of g.R.PixelRule.yields g.D.Readable.format g.D.Canvas.narrowed w.drawing) w.palette w.parts.now
     (g.M.Memory.bytes c.args.memory) l.width_some l.height_some l.inside
-    c.size.result c.size.ensures c.if-not-lies_inside.ensures
+    c.size.result c.size.ensures c.if-not-lies_inside.ensures.is
     (g.M.Memory.bytes c.draw_parts-progress.new.memory) far.drawn (waits far.waiting) c.draw_parts-progress.ensures
     c.is_complete.result c.is_complete.ensures

@@ -5,6 +5,8 @@ use Rattle.engine.specs.Painted.{op_of}
 use Rattle.engine.specs.Fed.{stage, takes_at, byte_come, Feed}
 use Rattle.engine.proofs.Laws.{feed_only, so_far_grew}
 use Rattle.engine.proofs.Wholes.{wholes_hold}
+use Rattle.engine.proofs.Totals.{takes_in_all}
+use Rattle.source.proofs.Meanings.{proper}
 use Rattle.engine.proofs.drawing.Drawing.feed.Goals as goal
 
 pub loop-taken-preserved : goal.loop-taken-preserved
@@ -24,7 +26,7 @@ returns-then-not-takes g c =
     let t = stage (g.M.Memory.bytes c.loop-taken.memory) c.loop-taken.progress in
     let all = ended (takes_at o) (byte_come o p) c.loop-taken.invariant.so_far c.if-not-takes.ensures in
     let feeds : Feed o p s c.args.sent.now t c.loop-taken.taken (t.drawn - s.drawn) = record { after = all.0; taken_is = all.1; drawn_is = refl } in
-    record { feeds = feeds; only = feed_only o p feeds; parts = in_parts (takes_at o) (byte_come o p); wholes = wholes_hold o p l.width_some l.inside l.height_some }
+    record { feeds = feeds; only = feed_only o p feeds; parts = in_parts (takes_at o) (byte_come o p); wholes = wholes_hold o p l.width_some l.inside l.height_some; in_all = takes_in_all o p (proper c.args.self.now.first) }
 
 pub returns : goal.returns
 returns g c =
@@ -35,4 +37,4 @@ returns g c =
     let t = stage (g.M.Memory.bytes c.loop-taken.memory) c.loop-taken.progress in
     let all = all_come (takes_at o) (byte_come o p) c.loop-taken.invariant.so_far (omega arith) in
     let feeds : Feed o p s c.args.sent.now t _ (t.drawn - s.drawn) = record { after = all.0; taken_is = all.1; drawn_is = refl } in
-    record { feeds = feeds; only = feed_only o p feeds; parts = in_parts (takes_at o) (byte_come o p); wholes = wholes_hold o p l.width_some l.inside l.height_some }
+    record { feeds = feeds; only = feed_only o p feeds; parts = in_parts (takes_at o) (byte_come o p); wholes = wholes_hold o p l.width_some l.inside l.height_some; in_all = takes_in_all o p (proper c.args.self.now.first) }
