@@ -3,3 +3,4 @@ pub mod Packing
 pub mod Channels
 pub mod Entries
 pub mod Formats
+pub mod Places

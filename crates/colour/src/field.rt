@@ -1,6 +1,6 @@
 // Fields of a pixel value that are narrower than a channel.
 ghost use Rattle.std.specs.Prelude.{◌≡◌, ℕ, ◌%◌, ◌^◌};
-ghost use Rattle.colour.specs.Widths.{bits_of, widened, narrowed};
+ghost use Rattle.colour.specs.Widths.{bits_of, widened, narrowed, RepeatsField, TakesTop};
 
 // The widths that a field of a pixel value can have, in bits.
 #[derive(Clone, Copy, PartialEq, Eq, Debug)]
@@ -21,9 +21,11 @@ impl FieldWidth {
     }
 
     // The channel that the lowest bits of `field` widen to.
+    #[tactic(auto, using(crate::proofs::FieldBits::widened_repeats))]
     pub fn widen(self, field: u8) -> u8
         ensures widens { result ≡ widened (bits_of self) (field % 2 ^ bits_of self) }
         ensures back { narrowed (bits_of self) result ≡ field % 2 ^ bits_of self }
+        ensures repeats { RepeatsField (bits_of self) field result }
     {
         match self {
             FieldWidth::Two => 85 * (field % 4),
@@ -36,8 +38,10 @@ impl FieldWidth {
     }
 
     // The field that a channel narrows to.
+    #[tactic(auto, using(crate::proofs::FieldBits::narrowed_top))]
     pub fn narrow(self, channel: u8) -> u8
-        ensures { result ≡ narrowed (bits_of self) channel }
+        ensures narrows { result ≡ narrowed (bits_of self) channel }
+        ensures top { TakesTop (bits_of self) channel result }
     {
         channel >> (8 - self.bits())
     }

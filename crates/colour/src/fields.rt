@@ -15,9 +15,12 @@ pub struct Fields {
 }
 
 impl Fields {
+    ghost use Rattle.colour.specs.Places.{FieldsWiden, FieldsShow, FieldsHold};
+
     // The channels that the fields of a value widen to.
     pub fn unpack(self, value: u32) -> (u8, u8, u8)
-        ensures { result ≡ unpacked (bits_of self.high) (bits_of self.middle) (bits_of self.low) value }
+        ensures unpacks { result ≡ unpacked (bits_of self.high) (bits_of self.middle) (bits_of self.low) value }
+        ensures fields { FieldsWiden self value result }
     {
         let above_low = value >> self.low.bits();
         let above_middle = above_low >> self.middle.bits();
@@ -41,7 +44,8 @@ impl Fields {
 
     // The colour whose red, green and blue stand in the fields of a value, red in the highest.
     pub fn colour(self, value: u32) -> Colour
-        ensures { result ≡ unpacked_colour (bits_of self.high) (bits_of self.middle) (bits_of self.low) value }
+        ensures unpacks { result ≡ unpacked_colour (bits_of self.high) (bits_of self.middle) (bits_of self.low) value }
+        ensures fields { FieldsShow self value result }
     {
         let (red, green, blue) = self.unpack(value);
         Colour { red, green, blue }
@@ -49,7 +53,8 @@ impl Fields {
 
     // The value in whose fields the red, green and blue of a colour stand, red in the highest.
     pub fn narrow(self, colour: Colour) -> u32
-        ensures { result ≡ packed (bits_of self.high) (bits_of self.middle) (bits_of self.low) colour.red colour.green colour.blue }
+        ensures packs { result ≡ packed (bits_of self.high) (bits_of self.middle) (bits_of self.low) colour.red colour.green colour.blue }
+        ensures fields { FieldsHold self colour result }
     {
         self.pack(colour.red, colour.green, colour.blue)
     }

@@ -3,7 +3,8 @@
 
 ghost use Rattle.std.specs.Prelude.{◌≡◌, ℕ, ◌+◌, ◌-◌, ◌*◌, ◌/◌, ◌%◌, ◌^◌, ◌<◌, ◌≤◌, set, replicate};
 ghost use Rattle.colour.specs.declared.Colour.{Colour};
-ghost use Rattle.colour.specs.Entries.{entry_of_bytes, entry_colour, entry_at, palette_colour};
+ghost use Rattle.colour.specs.Entries.{entry_of_bytes, LoadsFields, entry_colour, entry_at, palette_colour};
+ghost use Rattle.colour.specs.Packing.{ShowsFields};
 ghost use Rattle.colour.specs.Formats.{Format, Narrows};
 
 mod field;
@@ -27,7 +28,8 @@ pub struct Palette {
 
 // The entry that two bytes load, low byte first.
 pub fn entry_of_bytes(low: u8, high: u8) -> u16
-    ensures { result ≡ entry_of_bytes low high }
+    ensures is { result ≡ entry_of_bytes low high }
+    ensures fields { LoadsFields low high result }
 {
     u16::from_le_bytes([low, high % 16])
 }
@@ -40,7 +42,8 @@ const ENTRY_FIELDS: Fields = Fields {
 
 // No `From<u16>`: an entry is twelve bits of a number.
 pub fn colour_of_entry(entry: u16) -> Colour
-    ensures { result ≡ entry_colour entry }
+    ensures is { result ≡ entry_colour entry }
+    ensures fields { ShowsFields 4 4 4 entry result }
 {
     ENTRY_FIELDS.colour(entry as u32)
 }
@@ -66,7 +69,8 @@ impl Palette {
     }
 
     pub fn colour(&self, k: u8) -> Colour
-        ensures { result ≡ palette_colour self.now k }
+        ensures is { result ≡ palette_colour self.now k }
+        ensures fields { ShowsFields 4 4 4 (entry_at self.now k) result }
     {
         colour_of_entry(self.entry(k))
     }

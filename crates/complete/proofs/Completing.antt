@@ -3,12 +3,12 @@ use Rattle.std.proofs.Common.{◌≡◌, ℕ, ◌+◌, ◌-◌, ◌≤◌, Bool,
 use Rattle.std.proofs.lemmas.Bool.{cases_lt, cond-true, cond-false}
 use Rattle.std.proofs.lemmas.List.Sums.{fold-append}
 use Rattle.colour.specs.declared.Palette.{Palette}
-use Rattle.std.proofs.lemmas.Bool.Decides.{nat_tests}
 use Rattle.window.specs.Places.{pixels}
 use Rattle.source.specs.Origins.{awaited}
 use Rattle.engine.specs.Painted.{Op, plotted, painted}
 use Rattle.engine.specs.Fed.{Stage, takes, takes_at, byte_come, byte_fed, fed, bytes_taken, Feed}
 use Rattle.engine.specs.Laws.{OnlyPixels}
+use Rattle.engine.proofs.Bytes.{ends}
 use Rattle.engine.proofs.Orders.{cut}
 use Rattle.feeding.proofs.Feeding.{fed_ended}
 use Rattle.engine.proofs.Laws.{feed_only}
@@ -137,14 +137,9 @@ module _ (w : Way) (m : List ℕ) where
 
 module _ (o : Op) (size : ℕ) (across : 1 ≤ o.target.width) (down : 1 ≤ o.target.height) (fits : o.target.left + o.target.width ≤ o.target.image) where
   pub accepted_inside : lies_inside o size ≡ true → Accepted o size
-  accepted_inside e = record {
-    across = across;
-    down = down;
-    fits = fits;
-    first_inside = grind (arith, nat_tests);
-    second_inside = grind (arith, nat_tests);
-    target_inside = grind (arith, nat_tests);
-  }
+  accepted_inside e =
+      let i = ends o size e in
+      record { across = across; down = down; fits = fits; first_inside = i.first; second_inside = i.second; target_inside = i.target }
 
 -- a drawing by parts that lies inside memory
 module _ (o : Op) (p : Palette) (ps : List Part) (m : List ℕ) (across : 1 ≤ o.target.width) (down : 1 ≤ o.target.height)

@@ -1,8 +1,9 @@
 // The engine's drawing as a complete operation.
-ghost use Rattle.std.specs.Prelude.{◌≡◌, map, nat_le};
+ghost use Rattle.std.specs.Prelude.{◌≡◌, true, map, length, nat_le};
 ghost use Rattle.window.specs.Places.{area_of, pixels};
 ghost use Rattle.engine.specs.Painted.{op_of};
 ghost use Rattle.engine.specs.Fed.{stage};
+ghost use Rattle.engine.specs.Inside.{lies_inside};
 ghost use Rattle.complete.specs.Parts.{run as spent, portion_of, stepped, parted};
 ghost use Rattle.complete.specs.Complete.{begun, way_in_parts};
 
@@ -24,22 +25,32 @@ pub struct PartedDrawing<'a, 'b, R, D> {
 impl<R: PixelRule, D: Canvas> PartedDrawing<'_, '_, R, D> {
     // Spends an allowance of pixels, if memory serves the operation.
     fn run<M: Memory>(&self, memory: &mut M, progress: &mut Progress, allowance: u32)
-        ensures { stage (M.bytes memory.new) progress.new ≡ stepped (op_of R.yields D.format D.narrowed self.now.drawing) self.now.palette (stage (M.bytes memory.old) progress.old) (spent allowance) }
+        requires { lies_inside (op_of R.yields D.format D.narrowed self.now.drawing)
+            (length (M.bytes memory.old)) ≡ true }
+        ensures size { length (M.bytes memory.new) ≡ length (M.bytes memory.old) }
+        ensures after { stage (M.bytes memory.new) progress.new ≡ stepped (op_of R.yields D.format D.narrowed self.now.drawing) self.now.palette (stage (M.bytes memory.old) progress.old) (spent allowance) }
     {
-        if self.drawing.first.awaited() == 0 {
-            progress.drawn += self
-                .drawing
-                .draw(&self.palette, memory, 0, progress.drawn, allowance);
+        if self.drawing.first.awaited() > 0 {
+            return;
+        }
+        let drawn = self
+            .drawing
+            .draw(&self.palette, memory, 0, progress.drawn, allowance);
+        if let Ok(count) = drawn {
+            progress.drawn += count;
         }
     }
 
     // One part more.
     fn step<M: Memory>(&self, memory: &mut M, progress: &mut Progress, part: &Part<'_>)
-        ensures { stage (M.bytes memory.new) progress.new ≡ stepped (op_of R.yields D.format D.narrowed self.now.drawing) self.now.palette (stage (M.bytes memory.old) progress.old) (portion_of part.now) }
+        requires { lies_inside (op_of R.yields D.format D.narrowed self.now.drawing)
+            (length (M.bytes memory.old)) ≡ true }
+        ensures size { length (M.bytes memory.new) ≡ length (M.bytes memory.old) }
+        ensures after { stage (M.bytes memory.new) progress.new ≡ stepped (op_of R.yields D.format D.narrowed self.now.drawing) self.now.palette (stage (M.bytes memory.old) progress.old) (portion_of part.now) }
     {
         match *part {
             Part::Feed(bytes) => {
-                self.drawing.feed(&self.palette, memory, progress, bytes);
+                let _ = self.drawing.feed(&self.palette, memory, progress, bytes);
             }
             Part::Run(allowance) => self.run(memory, progress, allowance),
         }
@@ -47,6 +58,8 @@ impl<R: PixelRule, D: Canvas> PartedDrawing<'_, '_, R, D> {
 
     // Draws the parts, and answers how far the drawing has come.
     fn draw_parts<M: Memory>(&self, memory: &mut M) -> Progress
+        requires { lies_inside (op_of R.yields D.format D.narrowed self.now.drawing)
+            (length (M.bytes memory.old)) ≡ true }
         ensures { stage (M.bytes memory.new) result ≡ parted (op_of R.yields D.format D.narrowed self.now.drawing) self.now.palette (begun (M.bytes memory.old)) (map portion_of self.now.parts.now) }
     {
         let mut progress = Progress::default();

@@ -4,3 +4,5 @@ pub mod Laws
 pub mod Wholes
 pub mod Bytes
 pub mod Totals
+pub mod Histories
+pub mod Drawn

@@ -1,9 +1,11 @@
 -- How many bytes a host operation takes.
-use Rattle.std.proofs.Common.{◌≡◌, ℕ, ◌+◌, ◌-◌, ◌*◌, ◌/◌, ◌<◌, ◌≤◌, min, true, false, ltb, List, [], ◌∷◌, ◌++◌, length, refl, sym, ap, ◌∙◌, ⊎_elim, length-append, mul_comm, arith}
+use Rattle.std.proofs.Common.{◌≡◌, ℕ, ◌+◌, ◌-◌, ◌*◌, ◌/◌, ◌<◌, ◌≤◌, min, true, false, ltb, List, [], ◌∷◌, ◌++◌, length, refl, sym, ap, ◌∙◌, subst, ⊎_elim, length-append, mul_comm, arith}
 use Rattle.std.proofs.lemmas.Bool.{cases_lt, lt-ltb, le-ltb}
 use Rattle.std.proofs.lemmas.Bool.Decides.{nat_tests}
 use Rattle.std.proofs.lemmas.Nat.{mul-le, div_below, div-add-mod'}
-use Rattle.feeding.proofs.Feeding.{fed_ended, taken_ended}
+use Rattle.std.proofs.lemmas.List.Sums.{sum_by-cons}
+use Rattle.std.specs.List.{flat_map}
+use Rattle.feeding.proofs.Feeding.{fed_ended, taken_ended, in_parts}
 use Rattle.colour.specs.declared.Palette.{Palette}
 use Rattle.window.specs.declared.area.Area.{Area}
 use Rattle.window.specs.Places.{pixels}
@@ -15,7 +17,8 @@ use Rattle.source.proofs.Reaches.{unit_inside}
 use Rattle.source.proofs.Meanings.{Proper}
 use Rattle.engine.specs.Painted.{Op}
 use Rattle.engine.specs.Fed.{Stage, takes_at, byte_come, fed, bytes_taken}
-use Rattle.engine.specs.Totals.{bytes_for, AsWide, at_start, FedFromStart, TakesInAll}
+use Rattle.source.specs.Shapes.{AsWide}
+use Rattle.engine.specs.Totals.{bytes_for, at_start, burst_fed, burst_taken, bytes_in, FedFromStart, TakesInAll}
 
 -- the bytes that came before those of pixel k
 abbrev pub before : Origin → ℕ → ℕ
@@ -55,7 +58,7 @@ module _ (r : Rows) (t : Area) (some : 1 ≤ r.unit) (across : 1 ≤ r.columns) 
         omega arith;
   }
 
-steps : (f : Origin) (t : Area) → 0 < awaited f → Proper f → AsWide f t → Steps f t
+pub steps : (f : Origin) (t : Area) → 0 < awaited f → Proper f → AsWide f t.width → Steps f t
 steps unused t some p wide = absurd (omega arith)
 steps (host b) t some p wide = record {
   none = omega arith;
@@ -69,14 +72,14 @@ steps (pattern _ _ _) t some p wide = absurd (omega arith)
 steps (bits _ _) t some p wide = absurd (omega arith)
 
 -- an operation of which n bytes have come
-record Come (o : Op) (s : Stage) (n : ℕ) : Type 0 where
+pub record Come (o : Op) (s : Stage) (n : ℕ) : Type 0 where
   pub is : n ≡ before o.first s.drawn + length s.waiting
   pub few : length s.waiting < awaited o.first
   pub inside : s.drawn ≤ pixels o.target
   pub ended : s.drawn ≡ pixels o.target → length s.waiting ≡ 0
 
 -- and what xs do to it
-record Rest (o : Op) (p : Palette) (s : Stage) (n : ℕ) (xs : List ℕ) : Type 0 where
+pub record Rest (o : Op) (p : Palette) (s : Stage) (n : ℕ) (xs : List ℕ) : Type 0 where
   pub taken : bytes_taken o p s xs ≡ min (length xs) (bytes_for o.first o.target - n)
   pub complete : bytes_for o.first o.target ≤ n + length xs → (fed o p s xs).drawn ≡ pixels o.target
   pub not_before : n + length xs < bytes_for o.first o.target → (fed o p s xs).drawn < pixels o.target
@@ -95,7 +98,22 @@ module _ (o : Op) (p : Palette) (some : 0 < awaited o.first) (t : Steps o.first 
       rw e (record { is = omega (arith, c.is, c.few, t.next s.drawn h); few = some; inside = omega arith; ended = λ z. refl }))
       (cases_lt (length ws) (awaited o.first))
 
-  rest : (xs : List ℕ) (s : Stage) (n : ℕ) → Come o s n → Rest o p s n xs
+  -- the bytes that come count on
+  pub come_after : (xs : List ℕ) (s : Stage) (n : ℕ) → Come o s n → Come o (fed o p s xs) (n + bytes_taken o p s xs)
+  come_after [] s n c = subst (Come o s) (omega arith) c
+  come_after (x ∷ xs) s n c =
+      ⊎_elim
+      (λ (h : s.drawn < pixels o.target).
+      let e : takes_at o s ≡ true = grind (arith, nat_tests) in
+      let u = byte_come o p s x in
+      rw e (subst (Come o (fed o p u xs)) (omega arith) (come_after xs u (n + 1) (one_come s n x c h))))
+      (λ (h : pixels o.target ≤ s.drawn).
+      let e : takes_at o s ≡ false = grind (arith, nat_tests) in
+      rw (taken_ended (takes_at o) (byte_come o p) s (x ∷ xs) e, fed_ended (takes_at o) (byte_come o p) s (x ∷ xs) e)
+      (subst (Come o s) (omega arith) c))
+      (cases_lt s.drawn (pixels o.target))
+
+  pub rest : (xs : List ℕ) (s : Stage) (n : ℕ) → Come o s n → Rest o p s n xs
   rest [] s n c = record {
     taken = omega arith;
     complete = λ z.
@@ -137,13 +155,26 @@ module _ (o : Op) (p : Palette) (some : 0 < awaited o.first) (t : Steps o.first 
       })
       (cases_lt s.drawn (pixels o.target))
 
-  pub in_all : (m xs : List ℕ) → FedFromStart o p (bytes_for o.first o.target) m xs
-  in_all m xs =
-      let r = rest xs (at_start m) 0 (record { is = omega (arith, t.none); few = some; inside = omega arith; ended = λ z. refl }) in
-      record { taken = omega (arith, r.taken); complete = λ h i. r.complete (omega arith); not_before = λ h i. r.not_before (omega arith) }
+-- bursts are taken as their bytes together
+module _ (o : Op) (p : Palette) where
+  fed_together : (s : Stage) (bursts : List (List ℕ)) → burst_fed o p s bursts ≡ fed o p s (flat_map (λ x. x) bursts)
+  fed_together s [] = refl
+  fed_together s (xs ∷ bursts) =
+      fed_together (fed o p s xs) bursts ∙ sym (in_parts (takes_at o) (byte_come o p) s xs (flat_map (λ x. x) bursts)).after
+
+  taken_together : (s : Stage) (bursts : List (List ℕ)) → burst_taken o p s bursts ≡ bytes_taken o p s (flat_map (λ x. x) bursts)
+  taken_together s [] = refl
+  taken_together s (xs ∷ bursts) =
+      ap (λ n. bytes_taken o p s xs + n) (taken_together (fed o p s xs) bursts)
+      ∙ sym (in_parts (takes_at o) (byte_come o p) s xs (flat_map (λ x. x) bursts)).taken
+
+all_bytes : (bursts : List (List ℕ)) → length (flat_map (λ x. x) bursts) ≡ bytes_in bursts
+all_bytes [] = refl
+all_bytes (xs ∷ bursts) =
+    length-append xs (flat_map (λ x. x) bursts) ∙ ap (λ n. length xs + n) (all_bytes bursts) ∙ sym (sum_by-cons length xs bursts)
 
 -- where the host sends nothing, nothing is taken
-none_for : (f : Origin) (t : Area) → awaited f ≡ 0 → bytes_for f t ≡ 0
+pub none_for : (f : Origin) (t : Area) → awaited f ≡ 0 → bytes_for f t ≡ 0
 none_for unused t e = refl
 none_for (host b) t e = ap (λ x. t.width * t.height * x) e ∙ omega arith
 none_for (host_bits r) t e = ap (λ x. t.height * row_units r * x) e ∙ omega arith
@@ -151,19 +182,33 @@ none_for (image _ _) t e = refl
 none_for (pattern _ _ _) t e = refl
 none_for (bits _ _) t e = refl
 
-module _ (o : Op) (p : Palette) where
-  none_taken : awaited o.first ≡ 0 → (m xs : List ℕ) → FedFromStart o p (bytes_for o.first o.target) m xs
-  none_taken z m xs =
+module _ (o : Op) (p : Palette) (m : List ℕ) (bursts : List (List ℕ)) where
+  abbrev xs : List ℕ
+  xs = flat_map (λ x. x) bursts
+
+  some_taken : (some : 0 < awaited o.first) → Steps o.first o.target → FedFromStart o p (bytes_for o.first o.target) m bursts
+  some_taken some t =
+      let r = rest o p some t xs (at_start m) 0 (record { is = omega (arith, t.none); few = some; inside = omega arith; ended = λ z. refl }) in
+      let far = ap (λ s. s.drawn) (fed_together o p (at_start m) bursts) in
+      let long = all_bytes bursts in
+      record {
+        taken = omega (arith, taken_together o p (at_start m) bursts, r.taken);
+        complete = λ h i. far ∙ r.complete (omega arith);
+        not_before = λ h i. omega (arith, far, r.not_before (omega arith));
+      }
+
+  none_taken : awaited o.first ≡ 0 → FedFromStart o p (bytes_for o.first o.target) m bursts
+  none_taken z =
       let e : takes_at o (at_start m) ≡ false = grind (arith, nat_tests) in
       record {
-        taken = taken_ended (takes_at o) (byte_come o p) (at_start m) xs e ∙ omega (arith, none_for o.first o.target z);
+        taken = omega (arith, taken_together o p (at_start m) bursts, taken_ended (takes_at o) (byte_come o p) (at_start m) xs e, none_for o.first o.target z);
         complete = λ h i. absurd (omega arith);
         not_before = λ h i. absurd (omega arith);
       }
 
-  pub takes_in_all : Proper o.first → TakesInAll o p
-  takes_in_all proper wide m xs =
-      ⊎_elim
-      (λ (h : 0 < awaited o.first). in_all o p h (steps o.first o.target h proper wide) m xs)
-      (λ (h : awaited o.first ≤ 0). none_taken (omega arith) m xs)
-      (cases_lt 0 (awaited o.first))
+pub takes_in_all : (o : Op) (p : Palette) → Proper o.first → TakesInAll o p
+takes_in_all o p proper wide m bursts =
+    ⊎_elim
+    (λ (h : 0 < awaited o.first). some_taken o p m bursts h (steps o.first o.target h proper wide))
+    (λ (h : awaited o.first ≤ 0). none_taken o p m bursts (omega arith))
+    (cases_lt 0 (awaited o.first))

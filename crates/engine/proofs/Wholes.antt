@@ -10,13 +10,13 @@ use Rattle.engine.specs.Laws.{WholesHold}
 use Rattle.engine.proofs.Laws.{painted_holds}
 
 -- bytes behind another hold what they hold alone
-behind : (x : ℕ) (xs : List ℕ) (a n : ℕ) → value_at (x ∷ xs) (suc a) n ≡ value_at xs a n
+pub behind : (x : ℕ) (xs : List ℕ) (a n : ℕ) → value_at (x ∷ xs) (suc a) n ≡ value_at xs a n
 unfolding value_at
 behind x xs a zero = refl
 behind x xs a (suc n) = rw (add-one, add-one) (ap (λ v. get_or xs a 0 + 256 * v) (behind x xs (suc a) n))
 
 -- the number of bytes is the value that they have in memory
-number_is : (bytes : List ℕ) → number bytes ≡ value_at bytes 0 (length bytes)
+pub number_is : (bytes : List ℕ) → number bytes ≡ value_at bytes 0 (length bytes)
 unfolding value_at
 number_is [] = refl
 number_is (b ∷ bytes) = ap (λ v. b + 256 * v) (number_is bytes ∙ sym (behind b bytes 0 (length bytes)))

@@ -3,3 +3,5 @@ pub mod Fed
 pub mod Laws
 pub mod Inside
 pub mod Totals
+pub mod History
+pub mod Calls

@@ -1,14 +1,18 @@
 // Bytes from the host.
 ghost use Rattle.std.specs.Prelude.{◌≡◌, ℕ, ◌+◌, ◌-◌, ◌<◌, ◌≤◌, Bool, true, false, List, [], ◌∷◌, ◌++◌, length, Some, None, nat_lt};
+ghost use Rattle.refusal.specs.Numbers.{numbered};
 ghost use Rattle.engine.specs.Painted.{op_of};
 ghost use Rattle.engine.specs.Fed.{waits, number, stage, takes, come, Feed};
-ghost use Rattle.engine.specs.Laws.{OnlyPixels, FeedsInParts, WholesHold};
-ghost use Rattle.engine.specs.Totals.{TakesInAll};
+ghost use Rattle.engine.specs.Calls.{feed_answer, feed_after, FedOnly};
+ghost use Rattle.engine.specs.Laws.{FeedsInParts, WholesHold};
+ghost use Rattle.engine.specs.Totals.{TakesInAll, TakesAwaited};
+ghost use Rattle.engine.specs.History.{GoesOn};
 
 use crate::drawing::{Drawing, Progress};
 use crate::waiting::Waiting;
 use colour::{Canvas, Palette};
 use memory::Memory;
+use refusal::Refusal;
 use rules::PixelRule;
 
 impl Waiting {
@@ -61,27 +65,25 @@ impl<R: PixelRule, D: Canvas> Drawing<R, D> {
             None => {
                 let sent = progress.waiting.number(byte);
                 let due = self.first.served(progress.drawn);
-                progress.drawn += self.draw(palette, memory, sent, progress.drawn, due);
+                progress.drawn += self.paint(palette, memory, sent, progress.drawn, due);
                 progress.waiting = Waiting::None;
             }
         }
     }
 
-    // Takes bytes until they end or the drawing does. Answers the bytes taken and the pixels drawn. `PaletteLoad::feed` has the
-    // same loop: one function of two closures was proved for both, but it took a hundred lines of contract and proof and spared
+    // Takes bytes until they end or the drawing does, whether it lies inside memory or not. `PaletteLoad::feed` has the same
+    // loop: one function of two closures was proved for both, but it took a hundred lines of contract and proof and spared
     // forty, and it asked of its caller that they may be called.
-    pub fn feed<M: Memory>(
+    fn take<M: Memory>(
         &self,
         palette: &Palette,
         memory: &mut M,
         progress: &mut Progress,
         sent: &[u8],
     ) -> (usize, u32)
-        ensures feeds { Feed (op_of R.yields D.format D.narrowed self.now) palette.now (stage (M.bytes memory.old) progress.old) sent.now (stage (M.bytes memory.new) progress.new) result.0 result.1 }
-        ensures only { OnlyPixels (op_of R.yields D.format D.narrowed self.now) progress.old.drawn result.1 (M.bytes memory.old) (M.bytes memory.new) }
-        ensures parts { FeedsInParts (op_of R.yields D.format D.narrowed self.now) palette.now }
-        ensures wholes { WholesHold (op_of R.yields D.format D.narrowed self.now) palette.now }
-        ensures in_all { TakesInAll (op_of R.yields D.format D.narrowed self.now) palette.now }
+        ensures { Feed (op_of R.yields D.format D.narrowed self.now) palette.now
+            (stage (M.bytes memory.old) progress.old) sent.now (stage (M.bytes memory.new) progress.new)
+            result.0 result.1 }
     {
         let before = progress.drawn;
         for (taken, byte) in sent.iter().enumerate() {
@@ -91,5 +93,38 @@ impl<R: PixelRule, D: Canvas> Drawing<R, D> {
             self.accept(palette, memory, progress, *byte);
         }
         (sent.len(), progress.drawn - before)
+    }
+
+    /// Takes bytes until they end or the drawing does. Answers the bytes taken and the pixels drawn. Declined with `PastMemory`, and
+    /// none taken, where the drawing does not lie inside memory.
+    pub fn feed<M: Memory>(
+        &self,
+        palette: &Palette,
+        memory: &mut M,
+        progress: &mut Progress,
+        sent: &[u8],
+    ) -> Result<(usize, u32), Refusal>
+        ensures answer { numbered result
+            ≡ feed_answer (op_of R.yields D.format D.narrowed self.now) palette.now
+            (stage (M.bytes memory.old) progress.old) sent.now }
+        ensures after { stage (M.bytes memory.new) progress.new
+            ≡ feed_after (op_of R.yields D.format D.narrowed self.now) palette.now
+            (stage (M.bytes memory.old) progress.old) sent.now }
+        ensures only { FedOnly (op_of R.yields D.format D.narrowed self.now)
+            (stage (M.bytes memory.old) progress.old) (numbered result) (M.bytes memory.new) }
+        ensures parts { FeedsInParts (op_of R.yields D.format D.narrowed self.now) palette.now }
+        ensures wholes { WholesHold (op_of R.yields D.format D.narrowed self.now) palette.now }
+        ensures in_all { TakesInAll (op_of R.yields D.format D.narrowed self.now) palette.now }
+        ensures rest { TakesAwaited (op_of R.yields D.format D.narrowed self.now)
+            (stage (M.bytes memory.old) progress.old) sent.now (numbered result)
+            (stage (M.bytes memory.new) progress.new) }
+        ensures history { GoesOn (op_of R.yields D.format D.narrowed self.now) palette.now
+            (stage (M.bytes memory.old) progress.old) sent.now (numbered result)
+            (stage (M.bytes memory.new) progress.new) }
+    {
+        if !self.lies_inside(memory.size()) {
+            return Err(Refusal::PastMemory);
+        }
+        Ok(self.take(palette, memory, progress, sent))
     }
 }

@@ -1,8 +1,11 @@
 #![tactic(auto)]
 
-// Rows of bits and the rules on pixels, against values worked by hand, and a maker's own format through the engine.
+// Rows of bits and the rules on pixels, against values worked by hand; a maker's own format through the engine, and drawings that
+// it declines.
 #[cfg(test)]
 mod bit_rows;
+#[cfg(test)]
+mod inside;
 #[cfg(test)]
 mod keys;
 #[cfg(test)]

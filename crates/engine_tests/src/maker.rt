@@ -32,7 +32,7 @@ fn fill(rt: HostRuntime) -> Result<(), Fail> {
         second: Source::Unused,
         target: pair(1)?,
     };
-    assert_eq!(rt; drawing.draw(&Palette::new(), &mut board, 0, 0, 9), 2);
+    assert_eq!(rt; drawing.draw(&Palette::new(), &mut board, 0, 0, 9), Ok(2));
     assert_eq!(rt; block, [7, 0x1F, 0x44, 0x1F, 0x44, 7]);
     Ok(())
 }
@@ -65,7 +65,7 @@ fn exclusive_or_once(rt: HostRuntime) -> Result<(), Fail> {
     let mut block = [0x00u8, 0xF8, 0x34, 0x12, 0x1F, 0x00, 0xCD, 0xAB];
     let mut board = ByteBoard::new(&mut block);
     let drawing = exclusive_or()?;
-    assert_eq!(rt; drawing.draw(&Palette::new(), &mut board, 0, 0, 2), 2);
+    assert_eq!(rt; drawing.draw(&Palette::new(), &mut board, 0, 0, 2), Ok(2));
     assert_eq!(rt; block, [0x00, 0xF8, 0x34, 0x12, 0x00, 0x00, 0xEF, 0x09]);
     Ok(())
 }
@@ -77,8 +77,8 @@ fn exclusive_or_twice(rt: HostRuntime) -> Result<(), Fail> {
     let mut board = WordBoard::new(&mut block);
     let palette = Palette::new();
     let drawing = exclusive_or()?;
-    assert_eq!(rt; drawing.draw(&palette, &mut board, 0, 0, 2), 2);
-    assert_eq!(rt; drawing.draw(&palette, &mut board, 0, 0, 2), 2);
+    assert_eq!(rt; drawing.draw(&palette, &mut board, 0, 0, 2), Ok(2));
+    assert_eq!(rt; drawing.draw(&palette, &mut board, 0, 0, 2), Ok(2));
     assert_eq!(rt; block, [0xF800, 0x1234, 0x001F, 0xABCD]);
     Ok(())
 }
@@ -104,15 +104,15 @@ fn copy_from_host(rt: HostRuntime) -> Result<(), Fail> {
     let mut progress = Progress::default();
     assert_eq!(rt;
         drawing.feed(&palette, &mut board, &mut progress, &[0x1F]),
-        (1, 0)
+        Ok((1, 0))
     );
     assert_eq!(rt;
         drawing.feed(&palette, &mut board, &mut progress, &[0x44, 0x00]),
-        (2, 1)
+        Ok((2, 1))
     );
     assert_eq!(rt;
         drawing.feed(&palette, &mut board, &mut progress, &[0xF8, 0x99]),
-        (1, 1)
+        Ok((1, 1))
     );
     assert_eq!(rt; block, [0x08, 0xFC, 0x1F, 0x00]);
     Ok(())
@@ -134,7 +134,7 @@ fn key(rt: HostRuntime) -> Result<(), Fail> {
         second: Source::Unused,
         target: pair(4)?,
     };
-    assert_eq!(rt; drawing.draw(&Palette::new(), &mut board, 0, 0, 2), 2);
+    assert_eq!(rt; drawing.draw(&Palette::new(), &mut board, 0, 0, 2), Ok(2));
     assert_eq!(rt; block, [0x01, 0x08, 0x00, 0x08, 7, 0]);
     Ok(())
 }

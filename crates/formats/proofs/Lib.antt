@@ -1,1 +1,2 @@
 pub mod TableRule
+pub mod Shown

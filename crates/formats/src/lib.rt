@@ -2,8 +2,9 @@
 #![tactic(auto)]
 
 ghost use Rattle.std.specs.Prelude.{◌≡◌, ℕ, ◌+◌, ◌-◌, ◌*◌, ◌/◌, ◌%◌, ◌^◌, ◌<◌, ◌≤◌};
-ghost use Rattle.formats.specs.Packed.{format332, narrow332, format565, narrow565, format888, narrow888};
-ghost use Rattle.formats.specs.Depths.{depth_format, depth_narrow};
+ghost use Rattle.colour.specs.Packing.{ShowsFields, HoldsFields};
+ghost use Rattle.formats.specs.Packed.{format332, colour332, narrow332, format565, colour565, narrow565, format888, colour888, narrow888};
+ghost use Rattle.formats.specs.Depths.{depth_format, depth_narrow, depth_bits, DepthShows, DepthHolds};
 ghost use Rattle.formats.specs.Laws.{narrows332, narrows565, narrows888, depth_keeps};
 
 mod overlays;
@@ -29,11 +30,17 @@ impl Rgb332 {
 impl Readable for Rgb332 {
     ghost format = { λ _. format332 };
 
-    fn bytes_per_pixel(&self) -> u8 {
+    fn bytes_per_pixel(&self) -> u8
+        ensures is { result ≡ format332.width }
+        ensures filled { 8 * result ≡ 3 + 3 + 2 }
+    {
         1
     }
 
-    fn colour(&self, _palette: &Palette, value: u32) -> Colour {
+    fn colour(&self, _palette: &Palette, value: u32) -> Colour
+        ensures is { result ≡ colour332 value }
+        ensures fields { ShowsFields 3 3 2 value result }
+    {
         row(&COLOURS, value)
     }
 }
@@ -43,7 +50,10 @@ impl Canvas for Rgb332 {
 
     ghost keeps = { λ _. narrows332 };
 
-    fn narrow(&self, colour: Colour) -> u32 {
+    fn narrow(&self, colour: Colour) -> u32
+        ensures is { result ≡ narrow332 colour }
+        ensures fields { HoldsFields 3 3 2 colour result }
+    {
         Rgb332::FIELDS.narrow(colour)
     }
 }
@@ -62,11 +72,17 @@ impl Rgb565 {
 impl Readable for Rgb565 {
     ghost format = { λ _. format565 };
 
-    fn bytes_per_pixel(&self) -> u8 {
+    fn bytes_per_pixel(&self) -> u8
+        ensures is { result ≡ format565.width }
+        ensures filled { 8 * result ≡ 5 + 6 + 5 }
+    {
         2
     }
 
-    fn colour(&self, _palette: &Palette, value: u32) -> Colour {
+    fn colour(&self, _palette: &Palette, value: u32) -> Colour
+        ensures is { result ≡ colour565 value }
+        ensures fields { ShowsFields 5 6 5 value result }
+    {
         Rgb565::FIELDS.colour(value)
     }
 }
@@ -76,7 +92,10 @@ impl Canvas for Rgb565 {
 
     ghost keeps = { λ _. narrows565 };
 
-    fn narrow(&self, colour: Colour) -> u32 {
+    fn narrow(&self, colour: Colour) -> u32
+        ensures is { result ≡ narrow565 colour }
+        ensures fields { HoldsFields 5 6 5 colour result }
+    {
         Rgb565::FIELDS.narrow(colour)
     }
 }
@@ -95,11 +114,17 @@ impl Rgb888 {
 impl Readable for Rgb888 {
     ghost format = { λ _. format888 };
 
-    fn bytes_per_pixel(&self) -> u8 {
+    fn bytes_per_pixel(&self) -> u8
+        ensures is { result ≡ format888.width }
+        ensures filled { 8 * result ≡ 8 + 8 + 8 }
+    {
         3
     }
 
-    fn colour(&self, _palette: &Palette, value: u32) -> Colour {
+    fn colour(&self, _palette: &Palette, value: u32) -> Colour
+        ensures is { result ≡ colour888 value }
+        ensures fields { ShowsFields 8 8 8 value result }
+    {
         Rgb888::FIELDS.colour(value)
     }
 }
@@ -109,7 +134,10 @@ impl Canvas for Rgb888 {
 
     ghost keeps = { λ _. narrows888 };
 
-    fn narrow(&self, colour: Colour) -> u32 {
+    fn narrow(&self, colour: Colour) -> u32
+        ensures is { result ≡ narrow888 colour }
+        ensures fields { HoldsFields 8 8 8 colour result }
+    {
         Rgb888::FIELDS.narrow(colour)
     }
 }
@@ -126,7 +154,10 @@ pub enum Depth {
 impl Readable for Depth {
     ghost format = { depth_format };
 
-    fn bytes_per_pixel(&self) -> u8 {
+    fn bytes_per_pixel(&self) -> u8
+        ensures is { result ≡ (depth_format self.now).width }
+        ensures filled { 8 * result ≡ depth_bits self.now }
+    {
         match self {
             Depth::Rgb332 => Rgb332.bytes_per_pixel(),
             Depth::Rgb565 => Rgb565.bytes_per_pixel(),
@@ -134,7 +165,10 @@ impl Readable for Depth {
         }
     }
 
-    fn colour(&self, palette: &Palette, value: u32) -> Colour {
+    fn colour(&self, palette: &Palette, value: u32) -> Colour
+        ensures is { result ≡ (depth_format self.now).colour palette.now value }
+        ensures fields { DepthShows self.now value result }
+    {
         match self {
             Depth::Rgb332 => Rgb332.colour(palette, value),
             Depth::Rgb565 => Rgb565.colour(palette, value),
@@ -148,7 +182,11 @@ impl Canvas for Depth {
 
     ghost keeps = { depth_keeps };
 
-    fn narrow(&self, colour: Colour) -> u32 {
+    #[tactic(auto, using(crate::proofs::Shown::depth_holds))]
+    fn narrow(&self, colour: Colour) -> u32
+        ensures is { result ≡ depth_narrow self.now colour }
+        ensures fields { DepthHolds self.now colour result }
+    {
         match self {
             Depth::Rgb332 => Rgb332.narrow(colour),
             Depth::Rgb565 => Rgb565.narrow(colour),

@@ -1,6 +1,5 @@
 -- What has passed the tests stays inside memory.
 use Rattle.std.proofs.Common.{◌≡◌, ℕ, ◌+◌, ◌*◌, ◌<◌, ◌≤◌, Bool, true, false, None, Ok, Result, sym, ap, ◌∙◌, subst, arith}
-use Rattle.std.proofs.lemmas.Bool.Decides.{nat_tests}
 use Rattle.formats.specs.declared.Depth.{Depth}
 use Rattle.formats.specs.Depths.{depth_format}
 use Rattle.rules.specs.declared.chosen.Rule.{Rule}
@@ -11,17 +10,18 @@ use Rattle.source.specs.Origins.{Origin, taken_from, taken}
 use Rattle.source.specs.Reaches.{reach_of, Has, TakenInside}
 use Rattle.source.proofs.Reaches.{taken_inside}
 use Rattle.engine.specs.declared.drawing.Drawing.{Drawing}
+use Rattle.engine.proofs.Bytes.{ends}
 use Rattle.job.specs.declared.operation.FirstKind.{FirstKind}
 use Rattle.job.specs.declared.operation.FirstKind.TheVariants.{Nothing, HostPixels, Pixels, Pattern, HostBits, Bits}
 use Rattle.job.specs.declared.settings.Settings.{Settings}
 use Rattle.job.specs.Operations.{first_kind, uses_second}
-use Rattle.job.specs.Plans.{Plan, plan_of, plan_at, first_at, second_at}
+use Rattle.job.specs.Plans.{op_at, Plan, plan_of, plan_at, first_at, second_at}
 use Rattle.job.specs.Grounds.{inside, grounds, outcome}
 use Rattle.job.proofs.Starts.{cleared_none, inside_none}
 use Rattle.job.specs.Bounds.{StaysInside}
 
 -- each pixel of the rectangle is one that the sources have
-has_first : (s : Settings) (f : FirstKind) (k : ℕ) → k < s.width * s.height → Has (first_at s f) s.height k
+pub has_first : (s : Settings) (f : FirstKind) (k : ℕ) → k < s.width * s.height → Has (first_at s f) s.height k
 has_first s Nothing k h = tt
 has_first s HostPixels k h = tt
 has_first s Pixels k h = h
@@ -29,7 +29,7 @@ has_first s Pattern k h = tt
 has_first s HostBits k h = tt
 has_first s Bits k h = h
 
-has_second : (s : Settings) (used : Bool) (k : ℕ) → k < s.width * s.height → Has (second_at s used) s.height k
+pub has_second : (s : Settings) (used : Bool) (k : ℕ) → k < s.width * s.height → Has (second_at s used) s.height k
 has_second s true k h = h
 has_second s false k h = tt
 
@@ -55,10 +55,9 @@ module _ (s : Settings) (size : ℕ) (d : Drawing Rule Depth) (e : ◌≡◌ {A 
   stays =
       let l = limits_of d.target in
       let w = (depth_format p.canvas).width in
-      let inside = lies in
-      let target : reach p.target w ≤ size = grind (arith, nat_tests) in
+      let e = ends (op_at p) size lies in
       record {
-        draws = λ k h. omega (arith, place_inside p.target l.width_some w k l.height_some h);
-        first = taken_below (λ x. x.first) (taken_inside d.first p.target.height) (grind (arith, nat_tests)) (has_first s (first_kind s.operation));
-        second = taken_below (λ x. x.second) (taken_inside d.second p.target.height) (grind (arith, nat_tests)) (has_second s (uses_second s.operation));
+        draws = λ k h. omega (arith, place_inside p.target l.width_some w k l.height_some h, e.target);
+        first = taken_below (λ x. x.first) (taken_inside d.first p.target.height) e.first (has_first s (first_kind s.operation));
+        second = taken_below (λ x. x.second) (taken_inside d.second p.target.height) e.second (has_second s (uses_second s.operation));
       }

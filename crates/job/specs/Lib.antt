@@ -5,3 +5,4 @@ pub mod Parsed
 pub mod Works
 pub mod States
 pub mod Bounds
+pub mod Table

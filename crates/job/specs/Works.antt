@@ -4,7 +4,10 @@ use Rattle.colour.specs.declared.Palette.{Palette}
 use Rattle.window.specs.Places.{pixels}
 use Rattle.source.specs.Origins.{awaited}
 use Rattle.engine.specs.Painted.{plotted, painted}
-use Rattle.engine.specs.Laws.{EachHolds, OnlyPixels}
+use Rattle.engine.specs.Calls.{Drew}
+use Rattle.engine.specs.Calls as engine
+use Rattle.engine.specs.Totals.{UnderWay, TakesAwaited}
+use Rattle.engine.specs.History.{Reached, GoesOn}
 use Rattle.engine.specs.Fed.{Stage, takes, fed, bytes_taken}
 use Rattle.job.specs.declared.settings.Settings.{Settings}
 use Rattle.job.specs.Plans.{Plan, plan_at, op_at}
@@ -20,6 +23,11 @@ pub record Work : Type 0 where
 -- what is read and drawn lies inside that memory
 abbrev pub LiesInside : Work → Type 0
 LiesInside w = inside w.plan w.size ≡ true
+
+-- what a job keeps while it is drawn: it lies inside, has drawn at most its pixels, and fewer bytes wait than a pixel or unit has
+pub record Keeps (w : Work) : Type 0 where
+  pub inside : LiesInside w
+  pub under_way : UnderWay (op_at w.plan) w.drawn w.waiting
 
 -- a cleared job is one of which nothing is drawn
 abbrev pub fresh_work : Plan → ℕ → Work
@@ -94,10 +102,28 @@ run_after w p m n = cond (serves w m && runs w) (run_stage w p m n) (stage_of w 
 -- what a run did to memory: each pixel that it drew holds what its rule yielded, and nothing else changed; a declined
 -- one changed nothing
 abbrev pub Ran : Work → Palette → Result ℕ ℕ → List ℕ → List ℕ → Type 0
-Ran w p (Ok n) before after = EachHolds (op_at w.plan) p 0 w.drawn n before after × OnlyPixels (op_at w.plan) w.drawn n before after
-Ran w p (Err _) before after = after ≡ before
+Ran w p r before after = Drew (op_at w.plan) p 0 w.drawn r before after
 
 -- and a feed: nothing changed but the pixels that it drew
 abbrev pub FedOnly : Work → Result (ℕ × ℕ) ℕ → List ℕ → List ℕ → Type 0
-FedOnly w (Ok r) before after = OnlyPixels (op_at w.plan) w.drawn r.1 before after
-FedOnly w (Err _) before after = after ≡ before
+FedOnly w r before after = engine.FedOnly (op_at w.plan) (stage_of w before) r after
+
+-- the work so far: from memory `start` to memory m, by the bytes that it has taken since it was begun
+abbrev pub Story : Work → Palette → List ℕ → List ℕ → List ℕ → Type 0
+Story w p start sent m = Reached (op_at w.plan) p start sent (stage_of w m)
+
+-- it begins with memory as it is, and no byte
+abbrev pub Begins : Work → Type 0
+Begins w = (p : Palette) (m : List ℕ) → Story w p m [] m
+
+-- a feed goes on with it by the bytes taken; a declined one leaves it
+abbrev pub FeedGoesOn : Work → Palette → List ℕ → Result (ℕ × ℕ) ℕ → List ℕ → Work → List ℕ → Type 0
+FeedGoesOn w p xs r m v n = GoesOn (op_at w.plan) p (stage_of w m) xs r (stage_of v n)
+
+-- and takes the bytes that are sent, up to the last that is awaited, with which the job is complete
+abbrev pub FeedTakes : Work → List ℕ → Result (ℕ × ℕ) ℕ → List ℕ → Work → List ℕ → Type 0
+FeedTakes w xs r m v n = TakesAwaited (op_at w.plan) (stage_of w m) xs r (stage_of v n)
+
+-- so does a run, which takes none
+abbrev pub RunGoesOn : Work → Palette → List ℕ → Work → List ℕ → Type 0
+RunGoesOn w p m v n = (start sent : List ℕ) → Story w p start sent m → Story v p start sent n

@@ -73,16 +73,7 @@ impl Settings {
     fn blend(&self, first: Depth, second: Depth) -> Result<Rule, Refusal>
         ensures { numbered result ≡ level_blend self.now first second }
     {
-        let level = self.level;
-        if level <= 32 {
-            Ok(Rule::Blend(Blend {
-                level,
-                first,
-                second,
-            }))
-        } else {
-            Err(Refusal::LevelTooHigh)
-        }
+        Blend::new(self.level, first, second).map(Rule::Blend)
     }
 
     fn pixel_rule(

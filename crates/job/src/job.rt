@@ -55,7 +55,7 @@ pub struct Begun {
 }
 
 impl Model for Begun {
-    ghost use Rattle.job.specs.Works.{Work, LiesInside};
+    ghost use Rattle.job.specs.Works.{Work, Keeps};
 
     ghost Value = { Work };
 
@@ -63,7 +63,7 @@ impl Model for Begun {
 
     ghost view = { work_of };
 
-    ghost invariant = { λ b. LiesInside (work_of b) };
+    ghost invariant = { λ b. Keeps (work_of b) };
 }
 
 // What has ended. Clauses see the pixels drawn.

@@ -1,10 +1,10 @@
 // The calls of a job.
-ghost use Rattle.std.specs.Prelude.{◌≡◌, ◌≤◌, min, length, Ok};
-ghost use Rattle.engine.specs.Painted.{plotted, painted};
-ghost use Rattle.job.specs.Plans.{op_at};
+ghost use Rattle.std.specs.Prelude.{◌≡◌, length};
 ghost use Rattle.refusal.specs.Numbers.{numbered};
-ghost use Rattle.job.specs.Bounds.{clearing_of, AcceptedInside, PastExactly, HostBytes, LimitsExactly};
-ghost use Rattle.job.specs.Works.{LiesInside, clearing, awaits, runs, left, at_stage, feed_answer, feed_after, run_answer, run_after, Ran, FedOnly};
+ghost use Rattle.rules.specs.Meanings.{RuleMeans};
+ghost use Rattle.job.specs.Bounds.{clearing_of, AcceptedInside, HostBytes};
+ghost use Rattle.job.specs.Table.{ByTheTable};
+ghost use Rattle.job.specs.Works.{LiesInside, Keeps, clearing, awaits, runs, at_stage, feed_answer, feed_after, run_answer, run_after, Ran, FedOnly, Begins, FeedTakes, FeedGoesOn, RunGoesOn};
 
 use crate::job::{Begun, Cleared, Closed, Declined, Draft};
 use crate::settings::Settings;
@@ -21,12 +21,12 @@ impl Draft {
     }
 
     // Tests the draft against a memory; a declined one comes back unchanged.
-    #[tactic(auto, using(crate::proofs::Past::past_exactly, crate::proofs::Past::host_bytes, crate::proofs::Past::limits_exactly))]
+    #[tactic(auto, using(crate::proofs::ByTable::by_the_table, crate::proofs::Past::host_bytes))]
     pub fn clear<M: Memory>(self, memory: &M) -> Result<Cleared, Declined>
         ensures answer { clearing_of result ≡ clearing self (length (M.bytes memory.now)) }
         ensures inside { AcceptedInside result }
-        ensures past { PastExactly self (length (M.bytes memory.now)) (clearing self (length (M.bytes memory.now))) }
-        ensures limits { LimitsExactly self (clearing self (length (M.bytes memory.now))) }
+        ensures table { ByTheTable self (length (M.bytes memory.now))
+            (clearing self (length (M.bytes memory.now))) }
         ensures bytes { HostBytes (clearing self (length (M.bytes memory.now))) }
     {
         let size = memory.size();
@@ -44,6 +44,7 @@ impl Cleared {
     pub fn begin(self) -> Begun
         ensures work { result ≡ self }
         ensures inside { LiesInside result }
+        ensures history { Begins result }
     {
         let Cleared { drawing, size } = self;
         Begun {
@@ -58,7 +59,7 @@ impl Begun {
     // Whether bytes are awaited. What a state of a job holds to is handed on by a call of each, since callers see its model alone.
     pub fn awaits(&self) -> bool
         ensures answer { result ≡ awaits self.now }
-        ensures inside { LiesInside self.now }
+        ensures keeps { Keeps self.now }
     {
         self.drawing.takes(self.progress.drawn)
     }
@@ -66,7 +67,7 @@ impl Begun {
     // Whether pixels can be run.
     pub fn runs(&self) -> bool
         ensures answer { result ≡ runs self.now }
-        ensures inside { LiesInside self.now }
+        ensures keeps { Keeps self.now }
     {
         self.drawing.first.awaited() == 0 && self.progress.drawn < self.drawing.target.pixels()
     }
@@ -79,6 +80,7 @@ impl Begun {
     }
 
     // Bytes for a job that the host serves. Answers the bytes taken and the pixels drawn.
+    #[tactic(auto, using(rules::proofs::Meanings::rule_means))]
     pub fn feed<M: Memory>(
         &mut self,
         memory: &mut M,
@@ -89,6 +91,12 @@ impl Begun {
         ensures memory { M.bytes memory.new ≡ (feed_after self.old palette.now (M.bytes memory.old) sent.now).memory }
         ensures job { self.new ≡ at_stage self.old (feed_after self.old palette.now (M.bytes memory.old) sent.now) }
         ensures only { FedOnly self.old (numbered result) (M.bytes memory.old) (M.bytes memory.new) }
+        ensures rule { RuleMeans self.old.plan.rule }
+        ensures rest { FeedTakes self.old sent.now (numbered result)
+            (M.bytes memory.old) self.new (M.bytes memory.new) }
+        ensures history { FeedGoesOn self.old palette.now sent.now (numbered result)
+            (M.bytes memory.old) self.new (M.bytes memory.new) }
+        ensures keeps { Keeps self.new }
     {
         if memory.size() < self.size {
             return Err(Refusal::PastMemory);
@@ -96,23 +104,11 @@ impl Begun {
         if !self.awaits() {
             return Err(Refusal::NoByteAwaited);
         }
-        Ok(self.drawing.feed(palette, memory, &mut self.progress, sent))
-    }
-
-    // Draws the next pixels over a memory that is large enough.
-    #[tactic(auto, using(std::proofs::lemmas::Bool::Decides::nat_tests))]
-    fn draw<M: Memory>(&self, memory: &mut M, palette: &Palette, allowance: u32) -> u32
-        requires { self.now.size ≤ length (M.bytes memory.old) }
-        ensures count { result ≡ min allowance (left self.now) }
-        ensures after { M.bytes memory.new ≡ painted (plotted (op_at self.now.plan) palette.now 0) self.now.drawn result (M.bytes memory.old) }
-        ensures pixels { Ran self.now palette.now (Ok result) (M.bytes memory.old) (M.bytes memory.new) }
-    {
-        self.drawing
-            .draw(palette, memory, 0, self.progress.drawn, allowance)
+        self.drawing.feed(palette, memory, &mut self.progress, sent)
     }
 
     // Draws as many pixels as are allowed and left of a job that memory serves, and answers how many that were.
-    #[tactic(auto, using(window::proofs::Limits::pixels_few))]
+    #[tactic(auto, using(window::proofs::Limits::pixels_few, rules::proofs::Meanings::rule_means))]
     pub fn run<M: Memory>(
         &mut self,
         memory: &mut M,
@@ -123,6 +119,10 @@ impl Begun {
         ensures memory { M.bytes memory.new ≡ (run_after self.old palette.now (M.bytes memory.old) allowance).memory }
         ensures job { self.new ≡ at_stage self.old (run_after self.old palette.now (M.bytes memory.old) allowance) }
         ensures pixels { Ran self.old palette.now (numbered result) (M.bytes memory.old) (M.bytes memory.new) }
+        ensures rule { RuleMeans self.old.plan.rule }
+        ensures history { RunGoesOn self.old palette.now (M.bytes memory.old)
+            self.new (M.bytes memory.new) }
+        ensures keeps { Keeps self.new }
     {
         if memory.size() < self.size {
             return Err(Refusal::PastMemory);
@@ -130,7 +130,9 @@ impl Begun {
         if !self.runs() {
             return Err(Refusal::NothingToRun);
         }
-        let count = self.draw(memory, palette, allowance);
+        let count = self
+            .drawing
+            .draw(palette, memory, 0, self.progress.drawn, allowance)?;
         self.progress.drawn += count;
         Ok(count)
     }

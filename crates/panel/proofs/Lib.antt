@@ -1,3 +1,4 @@
 pub mod Declining
 pub mod OwnNumbers
 pub mod Scans
+pub mod Goings

@@ -2,6 +2,7 @@
 ghost use Rattle.std.specs.Prelude.{◌≡◌};
 ghost use Rattle.refusal.specs.Numbers.{numbered};
 ghost use Rattle.panel.specs.State.{seen, burst_answer, burst_after};
+ghost use Rattle.panel.specs.Histories.{BurstGoesOn};
 
 use crate::activity::Activity;
 use crate::panel::Panel;
@@ -14,6 +15,8 @@ impl<M: Memory> Panel<M> {
     pub fn burst(&mut self, sent: &[u8]) -> Result<(usize, u32), Refusal>
         ensures answer { numbered result ≡ burst_answer (seen M.bytes self.old) (seen M.bytes self.old).doing sent.now }
         ensures after { seen M.bytes self.new ≡ burst_after (seen M.bytes self.old) (seen M.bytes self.old).doing sent.now }
+        ensures history { BurstGoesOn (seen M.bytes self.old) (seen M.bytes self.old).doing sent.now
+            (numbered result) (seen M.bytes self.new) }
     {
         match &mut self.activity {
             Activity::Awaiting(begun) => {

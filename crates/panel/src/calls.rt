@@ -3,6 +3,7 @@ ghost use Rattle.std.specs.Prelude.{◌≡◌};
 ghost use Rattle.refusal.specs.Numbers.{numbered};
 ghost use Rattle.memory.specs.Bytes.{read_at};
 ghost use Rattle.panel.specs.State.{seen, fresh, busy, kept, written, started, under_way, answer_of, after_of, register_read, run_answer, run_after, stop_answer, stopped, status_of};
+ghost use Rattle.panel.specs.Histories.{Starts, RunGoesOn};
 
 use crate::activity::Activity;
 use crate::panel::Panel;
@@ -75,6 +76,8 @@ impl<M: Memory> Panel<M> {
     fn start(&mut self, value: u8) -> Result<(), Refusal>
         ensures answer { numbered result ≡ answer_of (started (seen M.bytes self.old) 0x90 value) }
         ensures after { seen M.bytes self.new ≡ after_of (seen M.bytes self.old) (started (seen M.bytes self.old) 0x90 value) }
+        ensures history { Starts 0x90 value (numbered result)
+            (seen M.bytes self.old) (seen M.bytes self.new) }
     {
         let draft = Draft::new(self.registers.settings(value));
         let begun = draft.clear(&self.memory)?.begin();
@@ -87,6 +90,8 @@ impl<M: Memory> Panel<M> {
     pub fn write(&mut self, register: u8, value: u8) -> Result<(), Refusal>
         ensures answer { numbered result ≡ answer_of (written (seen M.bytes self.old) register value) }
         ensures after { seen M.bytes self.new ≡ after_of (seen M.bytes self.old) (written (seen M.bytes self.old) register value) }
+        ensures history { Starts register value (numbered result)
+            (seen M.bytes self.old) (seen M.bytes self.new) }
     {
         let register = Register::try_from(register)?;
         if self.is_busy() {
@@ -118,6 +123,8 @@ impl<M: Memory> Panel<M> {
     pub fn run(&mut self, pixels: u32) -> Result<u32, Refusal>
         ensures answer { numbered result ≡ run_answer (seen M.bytes self.old) (seen M.bytes self.old).doing pixels }
         ensures after { seen M.bytes self.new ≡ run_after (seen M.bytes self.old) (seen M.bytes self.old).doing pixels }
+        ensures history { RunGoesOn (seen M.bytes self.old) (seen M.bytes self.old).doing
+            (numbered result) (seen M.bytes self.new) }
     {
         let Activity::Drawing(begun) = &mut self.activity else {
             return Err(Refusal::NothingToRun);

@@ -3,6 +3,7 @@ ghost use Rattle.std.specs.Prelude.{◌≡◌, IfSome};
 ghost use Rattle.panel_calls.specs.Calls.{call_of};
 ghost use Rattle.panel_calls.specs.Replies.{reply_of};
 ghost use Rattle.panel.specs.State.{seen};
+ghost use Rattle.panel.specs.Histories.{CallGoesOn};
 ghost use Rattle.panel.specs.Calls.{answered, left_by, declined_by, DeclinedChangesNothing, OwnNumber, LeftByCalls};
 
 use crate::activity::Activity;
@@ -16,6 +17,8 @@ impl<M: Memory> Panel<M> {
     fn dispatch(&mut self, call: Call<'_>) -> Answer
         ensures answer { reply_of result ≡ answered (seen M.bytes self.old) (call_of call.entry) }
         ensures after { seen M.bytes self.new ≡ left_by (seen M.bytes self.old) (call_of call.entry) }
+        ensures history { CallGoesOn (seen M.bytes self.old) (call_of call.entry) (reply_of result)
+            (seen M.bytes self.new) }
     {
         match (&self.activity, call) {
             (_, Call::Write { register, value }) => Answer::Write(self.write(register, value)),
@@ -37,6 +40,8 @@ impl<M: Memory> Panel<M> {
     pub fn make(&mut self, call: Call<'_>) -> Answer
         ensures answer { reply_of result ≡ answered (seen M.bytes self.old) (call_of call.entry) }
         ensures after { seen M.bytes self.new ≡ left_by (seen M.bytes self.old) (call_of call.entry) }
+        ensures history { CallGoesOn (seen M.bytes self.old) (call_of call.entry) (reply_of result)
+            (seen M.bytes self.new) }
         ensures declined { DeclinedChangesNothing (declined_by (reply_of result)) (seen M.bytes self.old) (seen M.bytes self.new) }
         ensures own { LeftByCalls (seen M.bytes self.old) → IfSome (declined_by (reply_of result)) (OwnNumber (seen M.bytes self.old).doing (call_of call.entry)) }
     {

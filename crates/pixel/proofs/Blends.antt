@@ -3,7 +3,7 @@ use Rattle.std.proofs.Common.{◌≡◌, ℕ, ◌+◌, ◌-◌, ◌*◌, ◌<◌
 use native.Mathlib.Nat.{min-le_left, min-le_right, le-max_left, le-max_right}
 use Rattle.colour.specs.declared.Colour.{Colour}
 use Rattle.colour.specs.Channels.{Channels}
-use Rattle.pixel.specs.Blends.{weighted, blend_channel, blended, Between}
+use Rattle.pixel.specs.Blends.{weighted, blend_channel, blended, Between, IsMean}
 
 -- a number as often as both weights say is that number 32 times
 all_weights : (level x : ℕ) → level ≤ 32 → x * level + x * (32 - level) ≡ x * 32
@@ -39,3 +39,8 @@ blended_channels level c d h k = record {
   green = blend_lt level c.green d.green h.green k.green;
   blue = blend_lt level c.blue d.blue h.blue k.blue;
 }
+
+-- a blended channel is the mean, rounded down
+pub blend_weighed : (level x y : ℕ) → IsMean level x y (blend_channel level x y)
+unfolding blend_channel
+blend_weighed level x y = record { least = omega arith; most = omega arith }

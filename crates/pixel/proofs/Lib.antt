@@ -1,3 +1,5 @@
 pub mod Minterms
+pub mod Formulas
 pub mod Rasters
 pub mod Blends
+pub mod Choices

@@ -1,5 +1,5 @@
 -- Blends: a mean of two colours, weighted by a level of 0 to 32.
-use Rattle.std.specs.Prelude.{ℕ, ◌+◌, ◌-◌, ◌*◌, ◌/◌, ◌≤◌, min, max, Some, None, Option}
+use Rattle.std.specs.Prelude.{ℕ, ◌+◌, ◌-◌, ◌*◌, ◌/◌, ◌<◌, ◌≤◌, min, max, Some, None, Option}
 use Rattle.colour.specs.declared.Colour.{Colour}
 use Rattle.colour.specs.Channels.{rgb}
 
@@ -30,3 +30,8 @@ pub record BetweenColours (c d e : Colour) : Type 0 where
 abbrev pub SomeBetween : Colour → Colour → Option Colour → Type 0
 SomeBetween c d None = ⊥
 SomeBetween c d (Some e) = BetweenColours c d e
+
+-- 32 times z fits into x counted level times and y the other times of 32; 32 times z + 1 does not
+pub record IsMean (level x y z : ℕ) : Type 0 where
+  pub least : 32 * z ≤ x * min level 32 + y * (32 - min level 32)
+  pub most : x * min level 32 + y * (32 - min level 32) < 32 * z + 32

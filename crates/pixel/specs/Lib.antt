@@ -1,3 +1,4 @@
 pub mod Rasters
 pub mod Blends
 pub mod Choices
+pub mod Each

@@ -1,2 +1,4 @@
 pub mod Yields
 pub mod Chosen
+pub mod Meanings
+pub mod Levels

@@ -2,6 +2,7 @@
 // heap, which the engine does not have.
 ghost use Rattle.std.specs.Prelude.{◌≡◌, ℕ};
 ghost use Rattle.rules.specs.Chosen.{rule_yields};
+ghost use Rattle.rules.specs.Meanings.{Means};
 
 use crate::{Blend, Expand, ExpandOver, Fill, Key, OverlayBlend, PixelRule, Raster};
 use colour::{Colour, Palette, Readable};
@@ -21,7 +22,11 @@ pub enum Rule {
 impl PixelRule for Rule {
     ghost yields = { rule_yields };
 
-    fn colour(&self, palette: &Palette, first: u32, second: u32) -> Option<Colour> {
+    #[tactic(auto, using(crate::proofs::Meanings::means_of))]
+    fn colour(&self, palette: &Palette, first: u32, second: u32) -> Option<Colour>
+        ensures is { result ≡ rule_yields self.now palette.now first second }
+        ensures means { Means self.now palette.now first second result }
+    {
         match self {
             Rule::Raster(rule) => rule.colour(palette, first, second),
             Rule::Key(rule) => rule.colour(palette, first, second),

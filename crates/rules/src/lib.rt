@@ -1,13 +1,15 @@
 // Pixel rules as values: one text can draw every operation.
 #![tactic(auto)]
 
-ghost use Rattle.std.specs.Prelude.{◌≡◌, ℕ};
+ghost use Rattle.std.specs.Prelude.{◌≡◌, ℕ, ◌<◌, ◌≤◌, Ok, Err};
+ghost use Rattle.refusal.specs.Numbers.{numbered};
 ghost use Rattle.rules.specs.Yields.{Yields, raster_yields, key_yields, expand_yields, expand_over_yields, blend_yields, overlay_blend_yields, fill_yields};
 
 mod chosen;
 
 pub use chosen::Rule;
 use colour::{Canvas, Colour, Overlay, Palette, Readable};
+use refusal::Refusal;
 
 pub trait PixelRule {
     ghost yields: { Self → Yields };
@@ -92,6 +94,28 @@ pub struct Blend<F, S> {
     pub level: u8,
     pub first: F,
     pub second: S,
+}
+
+// The most that a level can be.
+const LEVEL_LIMIT: u8 = 32;
+
+impl<F: Copy, S: Copy> Blend<F, S> {
+    ghost use Rattle.rules.specs.Levels.{blend_at};
+
+    // A blend at a level that a host asks for.
+    pub fn new(level: u8, first: F, second: S) -> Result<Blend<F, S>, Refusal>
+        ensures ok { level ≤ 32 → numbered result ≡ Ok (blend_at level first second) }
+        ensures too_high { 32 < level → numbered result ≡ Err 6 }
+    {
+        if level > LEVEL_LIMIT {
+            return Err(Refusal::LevelTooHigh);
+        }
+        Ok(Blend {
+            level,
+            first,
+            second,
+        })
+    }
 }
 
 impl<F: Readable, S: Readable> PixelRule for Blend<F, S> {

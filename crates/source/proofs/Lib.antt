@@ -2,3 +2,4 @@ pub mod Reaches
 pub mod Samples
 pub mod Pictures
 pub mod Meanings
+pub mod Shapes

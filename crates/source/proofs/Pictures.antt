@@ -7,6 +7,7 @@ use Rattle.window.specs.Geometry.{BytePast}
 use Rattle.source.specs.declared.rows.BitRows.{BitRows}
 use Rattle.source.proofs.Reaches.{unit_some}
 use Rattle.source.specs.Rows.{Rows, rows_of, row_units, depth_in_row, unit_of, unit_pixels, rows_reach}
+use Rattle.source.specs.Meanings.{away}
 use Rattle.source.specs.Pictures.{Away, BitsInRowOrder, FewestUnits, GivesItsOwn, UnitByte, unit_begins}
 
 module _ (r : Rows) where
@@ -23,6 +24,10 @@ module _ (r : Rows) where
   }
 
   module _ (some : 1 ≤ r.unit) where
+    -- where column c lies
+    pub away_in : (c : ℕ) → c < r.columns → Away r c (away r c / r.unit) (away r c % r.unit)
+    away_in c h = record { in_row = h; bits = mod_below (away r c) r.unit some; is = sym (div-add-mod' (away r c) r.unit) }
+
     pub fewest_units : FewestUnits r (row_units r)
     fewest_units =
         let x = r.columns + (r.unit - 1 - r.start) in

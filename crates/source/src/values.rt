@@ -3,6 +3,7 @@ ghost use Rattle.std.specs.Prelude.{◌≡◌, ℕ, ◌/◌, ◌%◌, ◌^◌, �
 ghost use Rattle.window.specs.Values.{value_at};
 ghost use Rattle.source.specs.Origins.{origin_of, sampled, awaited, served};
 ghost use Rattle.source.specs.Reaches.{reach_of, TakenInside};
+ghost use Rattle.source.specs.Shapes.{covers, CoversExactly};
 ghost use Rattle.window.specs.Geometry.{LeastSize};
 ghost use Rattle.source.specs.Meanings.{Gives, Serves, SourceByte};
 
@@ -72,6 +73,20 @@ impl Source {
             Source::Host(_) => 1,
             Source::HostBits(rows) => rows.unit_pixels(k),
             _ => 0,
+        }
+    }
+
+    // Whether the source has a pixel for each of a rectangle.
+    #[tactic(auto, using(crate::proofs::Shapes::covers_exactly))]
+    pub fn covers(&self, width: u16, height: u16) -> bool
+        ensures is { result ≡ covers (origin_of self.now) width height }
+        ensures exactly { 1 ≤ width → CoversExactly (origin_of self.now) width height }
+    {
+        match *self {
+            Source::Unused | Source::Host(_) => true,
+            Source::HostBits(rows) | Source::Bits { rows, .. } => rows.columns == width,
+            Source::Image { window, .. } => window.width() == width && height <= window.height(),
+            Source::Pattern { columns, .. } => columns == width,
         }
     }
 

@@ -44,6 +44,12 @@ impl Window {
         Ok(Window { area })
     }
 
+    pub fn width(&self) -> u16
+        ensures { result ≡ (area_of self.now).width }
+    {
+        self.area.width // in columns
+    }
+
     pub fn height(&self) -> u16
         ensures { result ≡ (area_of self.now).height }
     {

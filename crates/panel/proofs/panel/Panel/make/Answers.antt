@@ -11,6 +11,7 @@ returns g c =
     record {
       answer = facts.answer;
       after = facts.after;
+      history = facts.history;
       declined =
           declined_same (seen g.M.Memory.bytes c.args.self.now) (seen g.M.Memory.bytes c.dispatch.new.self) (call_of c.args.call) (reply_of c.dispatch.result)
           facts.answer facts.after;
