@@ -1,5 +1,5 @@
 -- Laws of the bits of a field, and of the value that fields compose.
-use Rattle.std.proofs.Common.{◌≡◌, ℕ, zero, suc, ◌<◌, ◌≤◌, ◌+◌, ◌-◌, ◌*◌, ◌/◌, ◌%◌, ◌^◌, refl, ap, ◌∙◌, arith, add_comm, mod-eq_of_lt}
+use Rattle.std.proofs.Common.{◌≡◌, ℕ, zero, suc, ◌<◌, ◌+◌, ◌-◌, ◌*◌, ◌/◌, ◌%◌, ◌^◌, refl, ap, ◌∙◌, arith, add_comm, mod-eq_of_lt}
 use Rattle.std.specs.Int.{bit_at}
 use Rattle.std.proofs.lemmas.Nat.{div-mul-add, mod-mul-add, shr-shr}
 use Rattle.colour.specs.declared.field.FieldWidth.{FieldWidth}
@@ -8,7 +8,7 @@ use Rattle.colour.specs.Widths.{bits_of, widened, narrowed, RepeatsField, TakesT
 use Rattle.colour.specs.declared.Colour.{Colour}
 use Rattle.colour.specs.Channels.{rgb}
 use Rattle.colour.specs.Packing.{unpacked, unpacked_colour, WidensFields, ShowsFields}
-use Rattle.colour.proofs.Packing.{narrowed_lt}
+use Rattle.colour.proofs.Packing.{few, narrowed_lt}
 
 -- what holds of each number below 8
 eight : (P : ℕ → Type 0) → P 0 → P 1 → P 2 → P 3 → P 4 → P 5 → P 6 → P 7 → (i : ℕ) → i < 8 → P i
@@ -40,14 +40,6 @@ topmost Four v = eight _ (λ _. omega arith) (λ _. omega arith) (λ _. omega ar
 topmost Five v = eight _ (λ _. omega arith) (λ _. omega arith) (λ _. omega arith) (λ _. omega arith) (λ _. omega arith) (λ h. absurd (omega arith)) (λ h. absurd (omega arith)) (λ h. absurd (omega arith))
 topmost Six v = eight _ (λ _. omega arith) (λ _. omega arith) (λ _. omega arith) (λ _. omega arith) (λ _. omega arith) (λ _. omega arith) (λ h. absurd (omega arith)) (λ h. absurd (omega arith))
 topmost Eight v = eight _ (λ _. omega arith) (λ _. omega arith) (λ _. omega arith) (λ _. omega arith) (λ _. omega arith) (λ _. omega arith) (λ _. omega arith) (λ _. omega arith)
-
-few : (w : FieldWidth) → bits_of w ≤ 8
-few Two = omega arith
-few Three = omega arith
-few Four = omega arith
-few Five = omega arith
-few Six = omega arith
-few Eight = omega arith
 
 pub narrowed_top : (w : FieldWidth) (v field : ℕ) → v < 256 → field ≡ narrowed (bits_of w) v → TakesTop (bits_of w) v field
 narrowed_top w v field h e = record { each = λ i l. rw e (topmost w v i (omega (arith, few w)) l); no_more = rw e (narrowed_lt w v h) }

@@ -12,7 +12,7 @@ use Rattle.colour.specs.Channels.{Channels, complement, both}
 use Rattle.colour.specs.Formats.{Format, Narrows}
 
 -- a width has at most 8 bits, so the lowest byte has the lowest field
-few : (w : FieldWidth) → bits_of w ≤ 8
+pub few : (w : FieldWidth) → bits_of w ≤ 8
 few Two = omega arith
 few Three = omega arith
 few Four = omega arith

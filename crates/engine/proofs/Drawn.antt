@@ -10,9 +10,9 @@ use Rattle.window.proofs.Limits.{limits_of}
 use Rattle.source.proofs.Meanings.{proper}
 use Rattle.engine.specs.declared.drawing.Drawing.{Drawing}
 use Rattle.engine.specs.Painted.{Op, op_of, plotted, painted}
-use Rattle.engine.specs.Fed.{Stage, takes_at, byte_come, Feed}
+use Rattle.engine.specs.Fed.{Stage, fed, takes_at, byte_come, Feed}
 use Rattle.engine.specs.Inside.{lies_inside}
-use Rattle.engine.specs.Calls.{allowed, Drew, FedOnly}
+use Rattle.engine.specs.Calls.{allowed, draw_answer, draw_after, Drew, feed_answer, feed_after, FedOnly}
 use Rattle.feeding.proofs.Feeding.{in_parts}
 use Rattle.engine.specs.Laws.{FeedsInParts, WholesHold}
 use Rattle.engine.specs.Totals.{TakesInAll, TakesAwaited}
@@ -21,6 +21,21 @@ use Rattle.engine.proofs.Laws.{painted_holds, painted_only, feed_only}
 use Rattle.engine.proofs.Wholes.{wholes_hold}
 use Rattle.engine.proofs.Totals.{takes_in_all}
 use Rattle.engine.proofs.Histories.{Lies, drawing_lies, drawing_reach, runs_on, goes_on, takes_rest}
+
+-- what draws pixels of an operation that lies inside memory
+pub record DrewSo (o : Op) (p : Palette) (sent first n count : ℕ) (m left : List ℕ) : Type 0 where
+  pub answer : Ok count ≡ draw_answer o m first n
+  pub after : left ≡ draw_after o p sent first n m
+  pub drew : Drew o p sent first (Ok count) m left
+  pub history : RunsOn o p first (Ok count) m left
+
+-- and what feeds it
+pub record FedSo (o : Op) (p : Palette) (s : Stage) (xs : List ℕ) (r : ℕ × ℕ) (t : Stage) : Type 0 where
+  pub answer : Ok r ≡ feed_answer o p s xs
+  pub after : t ≡ feed_after o p s xs
+  pub only : FedOnly o s (Ok r) t.memory
+  pub rest : TakesAwaited o s xs (Ok r) t
+  pub history : GoesOn o p s xs (Ok r) t
 
 module _ {R D : Type 0} (yields : R → Yields) (format : D → Format) (narrow : D → Colour → ℕ) (d : Drawing R D) (p : Palette) where
   abbrev pub o : Op
@@ -42,26 +57,31 @@ module _ {R D : Type 0} (yields : R → Yields) (format : D → Format) (narrow 
     fits : reach o.target o.format.width ≤ length m
     fits = omega (arith, size_is, drawing_reach yields format narrow d size (sym tested))
 
-    module _ (sent first n count : ℕ) (after : List ℕ) (count_is : count ≡ allowed o first n) (is : after ≡ painted (plotted o p sent) first count m) where
-      few : count ≤ pixels o.target - first
-      few = omega (arith, count_is)
+    here : lies_inside o (length m) ≡ true
+    here = ap (lies_inside o) (sym size_is) ∙ sym tested
 
-      pub drew : Drew o p sent first (Ok count) m after
-      drew =
-          let l = limits_of d.target in
-          rw is (painted_holds o p sent l.width_some l.inside l.height_some first count m few fits, painted_only o p sent first count m few)
+    pub drew_so : (sent first n count : ℕ) (after : List ℕ) → count ≡ allowed o first n → after ≡ painted (plotted o p sent) first count m
+        → DrewSo o p sent first n count m after
+    drew_so sent first n count after count_is is =
+        let l = limits_of d.target in
+        let few : count ≤ pixels o.target - first = omega (arith, count_is) in
+        record {
+          answer = rw (here, ← count_is);
+          after = rw (here, ← count_is) is;
+          drew = rw is (painted_holds o p sent l.width_some l.inside l.height_some first count m few fits, painted_only o p sent first count m few);
+          history = λ z start come waiting r. rw is (runs_on o p lies start z come waiting sent first count m sound fits few r);
+        }
 
-      pub ran : RunsOn o p first (Ok count) m after
-      ran z start come waiting r = rw is (runs_on o p lies start z come waiting sent first count m sound fits few r)
-
-    module _ (s t : Stage) (at : s.memory ≡ m) (xs : List ℕ) (taken drawn : ℕ) (f : Feed o p s xs t taken drawn) where
-      pub only : FedOnly o s (Ok (taken, drawn)) t.memory
-      only = feed_only o p f
-
-      pub awaited_taken : TakesAwaited o s xs (Ok (taken, drawn)) t
-      awaited_taken u = rw (f.after, f.taken_is) (takes_rest o p lies m xs s u)
-
-      pub goes : GoesOn o p s xs (Ok (taken, drawn)) t
-      goes start sent r =
-          rw (f.after, f.taken_is)
-          (goes_on o p lies start xs sent s (subst Sound (sym at) sound) (subst (λ x. reach o.target o.format.width ≤ length x) (sym at) fits) r)
+    pub fed_so : (s t : Stage) → s.memory ≡ m → (xs : List ℕ) (taken drawn : ℕ) → Feed o p s xs t taken drawn → FedSo o p s xs (taken, drawn) t
+    fed_so s t at xs taken drawn f =
+        let inside : lies_inside o (length s.memory) ≡ true = ap (λ x. lies_inside o (length x)) at ∙ here in
+        let drawn_is : drawn ≡ (fed o p s xs).drawn - s.drawn = f.drawn_is ∙ ap (λ x. x.drawn - s.drawn) f.after in
+        record {
+          answer = rw (inside, f.taken_is, drawn_is);
+          after = rw inside f.after;
+          only = feed_only o p f;
+          rest = λ u. rw (f.after, f.taken_is) (takes_rest o p lies m xs s u);
+          history = λ start sent r.
+              rw (f.after, f.taken_is)
+              (goes_on o p lies start xs sent s (subst Sound (sym at) sound) (subst (λ x. reach o.target o.format.width ≤ length x) (sym at) fits) r);
+        }

@@ -33,6 +33,7 @@ use Rattle.engine.specs.Totals.{bytes_for, bytes_used, at_start, UnderWay, Takes
 use Rattle.engine.specs.History.{Replaced, Becomes, number_sent, colour_in, PixelDrawn, History, Reached}
 use Rattle.engine.proofs.Wholes.{behind, number_is}
 use Rattle.engine.proofs.Orders.{painted_kept}
+use Rattle.engine.proofs.Pictures.{holds, others}
 use Rattle.engine.proofs.Laws.{painted_length}
 use Rattle.engine.proofs.Totals.{before, Steps, steps, Come, rest, come_after, none_for}
 use Rattle.feeding.proofs.Feeding.{fed_ended, taken_ended}
@@ -133,6 +134,7 @@ by_place f m n w k g wide across = ap (sampled f m n) (sym (div-add-mod' k w)) �
 pub record Lies (o : Op) : Type 0 where
   pub across : 1 ≤ o.target.width
   pub down : 1 ≤ o.target.height
+  pub fits : o.target.left + o.target.width ≤ o.target.image
   pub first_wide : AsWide o.first o.target.width
   pub second_wide : AsWide o.second o.target.width
   pub in_memory : awaited o.second ≡ 0
@@ -272,10 +274,15 @@ module _ (o : Op) (p : Palette) (l : Lies o) (start : List ℕ) where
     long : length all ≡ before o.first s.drawn + length ws
     long = ap length joined ∙ length-append r.used ws ∙ ap (λ n. n + length ws) at
 
+    history : History o p start all s.drawn s.memory
+    history = more_sent o p l start sent (x ∷ []) s.drawn s.memory r.history
+
     -- a byte that does not make a whole
     pub part_come : length ws < awaited o.first → Reached o p start all (record s { waiting = ws })
     part_come h = record {
-      history = more_sent o p l start sent (x ∷ []) s.drawn s.memory r.history;
+      history = history;
+      holds = holds o l.across l.fits p start all s.drawn s.memory history;
+      others = r.others;
       under_way = record { own = r.under_way.own; few = omega arith; none = λ e. absurd (omega arith) };
       used = r.used;
       joined = joined;
@@ -297,15 +304,20 @@ module _ (o : Op) (p : Palette) (l : Lies o) (start : List ℕ) where
           ∙ ap (value_at all (sent_at o.first w' ((s.drawn + j) % w') ((s.drawn + j) / w'))) full
 
       pub whole_come : Reached o p start all (whole o p s (number ws))
-      whole_come = record {
-        history =
-            more_drawn o p l start all (number ws) s.drawn (due o s.drawn) s.memory sound inside (omega arith)
-            (λ j h. inl (numbered j h)) (λ j h. omega (arith, its j h, at, long)) (more_sent o p l start sent (x ∷ []) s.drawn s.memory r.history);
-        under_way = record { own = omega arith; few = omega arith; none = λ e. refl };
-        used = r.used ++ ws;
-        joined = joined ∙ sym (append-nil (r.used ++ ws));
-        count = length-append r.used ws ∙ omega (arith, at, full, t.next s.drawn left, used_is next);
-      }
+      whole_come =
+          let m = (whole o p s (number ws)).memory in
+          let more : History o p start all next m =
+          more_drawn o p l start all (number ws) s.drawn (due o s.drawn) s.memory sound inside (omega arith)
+          (λ j h. inl (numbered j h)) (λ j h. omega (arith, its j h, at, long)) history in
+          record {
+            history = more;
+            holds = holds o l.across l.fits p start all next m more;
+            others = others o l.across l.fits p start all next m more;
+            under_way = record { own = omega arith; few = omega arith; none = λ e. refl };
+            used = r.used ++ ws;
+            joined = joined ∙ sym (append-nil (r.used ++ ws));
+            count = length-append r.used ws ∙ omega (arith, at, full, t.next s.drawn left, used_is next);
+          }
 
     pub byte_on : Reached o p start all (byte_come o p s x)
     byte_on =
@@ -395,10 +407,14 @@ module _ (o : Op) (p : Palette) (l : Lies o) (start : List ℕ) where
       let own = r.under_way.own in
       let waits = r.under_way.few in
       let unused = λ (k : ℕ). used_is k ∙ unsent o.first l.first_proper z k in
+      let now = painted (plotted o p v) first n m in
+      let more : History o p start sent (first + n) now =
+      more_drawn o p l start sent v first n m sound inside (omega arith) (λ j h. inr z)
+      (λ j h. omega (arith, z, unused (first + j))) r.history in
       record {
-        history =
-            more_drawn o p l start sent v first n m sound inside (omega arith) (λ j h. inr z)
-            (λ j h. omega (arith, z, unused (first + j))) r.history;
+        history = more;
+        holds = holds o l.across l.fits p start sent (first + n) now more;
+        others = others o l.across l.fits p start sent (first + n) now more;
         under_way = record { own = omega arith; few = waits; none = λ e. omega arith };
         used = r.used;
         joined = r.joined;
@@ -416,6 +432,7 @@ module _ {R D : Type 0} (yields : R → Yields) (format : D → Format) (narrow 
       record {
         across = m.width_some;
         down = m.height_some;
+        fits = m.inside;
         first_wide = c.first.wide;
         second_wide = c.second.wide;
         in_memory = c.in_memory;
@@ -435,6 +452,8 @@ module _ {R D : Type 0} (yields : R → Yields) (format : D → Format) (narrow 
       let l = drawing_lies in
       record {
         history = record { before = λ k. m; begins = refl; each = λ k h. absurd (omega arith); ends = refl };
+        holds = λ k h. absurd (omega arith);
+        others = λ x off. refl;
         under_way = record { own = omega arith; few = omega arith; none = λ e. refl };
         used = [];
         joined = refl;

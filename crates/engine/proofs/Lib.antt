@@ -4,5 +4,6 @@ pub mod Laws
 pub mod Wholes
 pub mod Bytes
 pub mod Totals
+pub mod Pictures
 pub mod Histories
 pub mod Drawn

@@ -10,6 +10,7 @@ use Rattle.source.specs.Origins.{awaited}
 use Rattle.source.specs.Meanings.{value_of, sent_at}
 use Rattle.engine.specs.Painted.{Op}
 use Rattle.engine.specs.Fed.{Stage}
+use Rattle.engine.specs.Laws.{value_after}
 use Rattle.engine.specs.Totals.{UnderWay, bytes_used}
 
 -- memory n is m with b bytes from a on replaced by those of v, low byte first
@@ -44,9 +45,31 @@ pub record History (o : Op) (p : Palette) (start sent : List ℕ) (drawn : ℕ) 
   pub each : (k : ℕ) → k < drawn → PixelDrawn o p sent (k % o.target.width) (k / o.target.width) (before k) (before (k + 1))
   pub ends : before drawn ≡ now
 
+-- what the bytes hold of the pixel in column c and row r
+abbrev pub held : Op → List ℕ → ℕ → ℕ → ℕ
+held o m c row = value_at m (begins o.target o.format.width c row) o.format.width
+
+-- so each pixel drawn holds what its rule yielded on memory as it was when the pixel was reached, narrowed, or what it held at the
+-- start where the rule yielded none
+abbrev pub EachHeld : (o : Op) (p : Palette) (start sent : List ℕ) (drawn : ℕ) (now : List ℕ) → History o p start sent drawn now → Type 0
+EachHeld o p start sent drawn now h =
+    (k : ℕ) → k < drawn
+    → let c = k % o.target.width in
+    let row = k / o.target.width in
+    held o now c row ≡ value_after o (colour_in o p sent (h.before k) c row) (held o start c row)
+
+-- and every other byte is as at the start
+abbrev pub OthersKept : Op → List ℕ → ℕ → List ℕ → Type 0
+OthersKept o start drawn now =
+    (x : ℕ)
+    → ((k : ℕ) → k < drawn → Off (begins o.target o.format.width (k % o.target.width) (k / o.target.width)) o.format.width x)
+    → slice_index now x ≡ slice_index start x
+
 -- an operation has come from its start, in memory `start`, to a stage, by the bytes that it has taken from the host since
 pub record Reached (o : Op) (p : Palette) (start sent : List ℕ) (s : Stage) : Type 0 where
   pub history : History o p start sent s.drawn s.memory
+  pub holds : EachHeld o p start sent s.drawn s.memory history
+  pub others : OthersKept o start s.drawn s.memory
   pub under_way : UnderWay o s.drawn s.waiting
   -- the bytes of the pixels that are drawn, up to where those of the next begin, and behind them the bytes that wait
   pub used : List ℕ

@@ -1,18 +1,28 @@
 -- Which colour and which level a value has that is made of fields, and what a colour narrows to.
-use Rattle.std.proofs.Common.{◌≡◌, ℕ, zero, suc, ◌<◌, ◌≤◌, ◌+◌, ◌*◌, ◌/◌, ◌%◌, false, cond, eqb, slice_index, ap, ◌∙◌, arith}
+use Rattle.std.proofs.Common.{◌≡◌, ℕ, zero, suc, ◌<◌, ◌≤◌, ◌+◌, ◌*◌, ◌/◌, ◌%◌, false, cond, eqb, slice_index, slice_index_or, ap, ◌∙◌, arith}
 use Rattle.std.proofs.lemmas.Bool.{ne_eqb}
 use Rattle.colour.specs.declared.Colour.{Colour}
 use Rattle.colour.specs.declared.Palette.{Palette}
-use Rattle.colour.specs.Packing.{composed}
+use Rattle.colour.specs.Packing.{composed, ShowsFields}
 use Rattle.colour.specs.Entries.{entry_colour, palette_colour}
 use Rattle.colour.proofs.FieldBits.{shown_composed}
-use Rattle.formats.specs.Depths.{depth_narrow, DepthHolds}
+use Rattle.formats.specs.Depths.{depth_narrow, DepthShows, DepthHolds}
 use Rattle.formats.specs.Overlays.{index_entry, index_levels, level26, field_level, level4444, ShowsEntry, HasIndexLevel, ShowsArgb, HasArgbLevel}
 use Rattle.formats.specs.OverlayKinds.{overlay_format, overlay_level, OverlayShows, OverlayHasLevel}
 use Rattle.formats.specs.declared.Depth.{Depth}
 use Rattle.formats.specs.declared.Depth.TheVariants.{Rgb332, Rgb565, Rgb888}
 use Rattle.formats.specs.declared.overlays.OverlayKind.{OverlayKind}
 use Rattle.formats.specs.declared.overlays.OverlayKind.TheVariants.{Index26, Argb4444}
+
+-- the depth that is chosen while the program runs shows what its format shows
+pub shows_332 : (d : Depth) (v : ℕ) (c : Colour) → d ≡ Rgb332 → ShowsFields 3 3 2 v c → DepthShows d v c
+shows_332 d v c e h = rw e h
+
+pub shows_565 : (d : Depth) (v : ℕ) (c : Colour) → d ≡ Rgb565 → ShowsFields 5 6 5 v c → DepthShows d v c
+shows_565 d v c e h = rw e h
+
+pub shows_888 : (d : Depth) (v : ℕ) (c : Colour) → d ≡ Rgb888 → ShowsFields 8 8 8 v c → DepthShows d v c
+shows_888 d v c e h = rw e h
 
 pub depth_holds : (d : Depth) (c : Colour) (v : ℕ) → v ≡ depth_narrow d c → DepthHolds d c v
 depth_holds Rgb332 c v e = record { is = e }
@@ -40,6 +50,10 @@ index_level_of_field v level e =
       least = λ f k h l s. rw (chosen f k h l s) ((thirds f h).0);
       most = λ f k h l s. rw (chosen f k h l s) ((thirds f h).1);
     }
+
+-- read from a row of the table, whatever stands past its end
+pub index_level_of_row : (v level : ℕ) → ((d : ℕ) → level ≡ slice_index_or index_levels (v / 64 % 4) d) → HasIndexLevel v level
+index_level_of_row v level read = index_level_of_field v level (read 0)
 
 pub index_shows : (p : Palette) (v : ℕ) (c : Colour) → c ≡ palette_colour p (index_entry v) → ShowsEntry p v c
 index_shows p v c e = record {

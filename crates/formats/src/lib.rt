@@ -165,6 +165,7 @@ impl Readable for Depth {
         }
     }
 
+    #[tactic(auto, using(crate::proofs::Shown::shows_332, crate::proofs::Shown::shows_565, crate::proofs::Shown::shows_888))]
     fn colour(&self, palette: &Palette, value: u32) -> Colour
         ensures is { result ≡ (depth_format self.now).colour palette.now value }
         ensures fields { DepthShows self.now value result }

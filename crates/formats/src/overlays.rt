@@ -45,6 +45,7 @@ impl Overlay for Index26 {
 
     ghost bounded = { λ _ v. index_bounded (v / 64 % 4) };
 
+    #[tactic(auto, using(crate::proofs::Shown::index_level_of_row))]
     fn level(&self, value: u32) -> u8
         ensures is { result ≡ level26 value }
         ensures has { HasIndexLevel value result }

@@ -10,7 +10,7 @@ use Rattle.std.proofs.lemmas.List.FromFn.{get_or-range_with_len, length-range_wi
 use lib.Bits.{bit_and, bit_or, bit_xor, and_lt}
 use Rattle.colour.proofs.Bits.{turned_lt, turned_bit, two_bits}
 use Rattle.pixel.specs.Rasters.{chosen, raster_bits, formulas, ChoosesBits, FollowsFormula}
-use Rattle.pixel.proofs.Minterms.{raster_lt, raster_bit}
+use Rattle.pixel.proofs.Minterms.{raster_lt, raster_bit, joined, channel_joined}
 
 pub raster_chooses : (rule x y z : ℕ) → z ≡ raster_bits 8 rule x y → ChoosesBits rule x y z
 raster_chooses rule x y z e = record { each = λ i h. ap (λ w. bit_at w i) e ∙ raster_bit 8 rule x y i h }
@@ -93,3 +93,7 @@ raster_lowest rule x y =
 
 pub raster_follows : (rule x y z : ℕ) → x < 256 → y < 256 → z ≡ raster_bits 8 rule x y → FollowsFormula rule x y z
 raster_follows rule x y z h k e = record { is = listed x y h k (rule % 16) (omega arith) ∙ ap Some (raster_lowest rule x y ∙ sym e) }
+
+-- what the code joins follows the formula
+pub joined_follows : (rule x y : ℕ) → x < 256 → y < 256 → FollowsFormula rule x y (joined 8 rule x y)
+joined_follows rule x y h k = raster_follows rule x y (joined 8 rule x y) h k (sym (channel_joined rule x y h k))

@@ -27,7 +27,7 @@ fn zip_channels<F: Fn(u8, u8) -> u8>(first: Colour, second: Colour, f: F) -> Col
 
 // A raster rule on one channel. It is the or of the four ways in which two bits can stand, each of which one bit of the rule keeps
 // or drops. The rule is a number and no enum, since its bits are its truth table: each of the sixteen is a rule.
-#[tactic(auto, using(crate::proofs::Minterms::channel_joined, crate::proofs::Formulas::raster_chooses))]
+#[tactic(auto, using(crate::proofs::Minterms::channel_joined, crate::proofs::Formulas::raster_chooses, crate::proofs::Formulas::joined_follows))]
 pub fn raster_channel(rule: u8, first: u8, second: u8) -> u8
     ensures is { result ≡ raster_channel rule first second }
     ensures bits { ChoosesBits rule first second result }

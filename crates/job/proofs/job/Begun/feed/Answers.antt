@@ -1,38 +1,36 @@
-use Rattle.std.proofs.Common.{◌≡◌, true, ◌≤◌, length, sym, ap, ◌∙◌, subst, arith}
+use Rattle.std.proofs.Common.{◌≡◌, true, ◌≤◌, length, sym, ap, ◌∙◌, subst, rules, arith}
 use Rattle.refusal.specs.Numbers.{numbered}
+use Rattle.rules.proofs.Meanings.{rule_means}
 use Rattle.job.specs.States.{work_of}
-use Rattle.job.specs.Works.{awaits, at_stage, feed_answer, feed_after}
+use Rattle.job.specs.Works.{awaits, at_stage, feed_answer, feed_after, FedOnly, FeedTakes, FeedGoesOn}
 use Rattle.job.proofs.Under.{feed_answer_is, feed_after_is}
 use Rattle.job.proofs.job.Begun.feed.Goals as goal
 
-pub returns-clause-answer : goal.returns-clause-answer
-returns-clause-answer g c =
+pub returns : goal.returns
+returns g c =
     let m = g.M.Memory.bytes c.args.memory.now in
+    let n = g.M.Memory.bytes c.feed.new.memory in
     let p = c.args.palette.now in
     let xs = c.args.sent.now in
+    let e = c.feed.ensures in
     let w = work_of c.self.inside in
+    let after = work_of (record c.self.inside { progress = c.feed.new.progress }) in
     let size : w.size ≤ length m = omega (arith, c.size.ensures) in
     let a : awaits w ≡ true = ap awaits c.self.view_is ∙ sym c.if-not-awaits.ensures.answer in
-    subst (λ v. numbered c.feed.result ≡ feed_answer v p m xs) c.self.view_is (c.feed.ensures.answer ∙ feed_answer_is w m c.self.invariant size a p xs)
-
-pub returns-clause-memory : goal.returns-clause-memory
-returns-clause-memory g c =
-    let m = g.M.Memory.bytes c.args.memory.now in
-    let p = c.args.palette.now in
-    let xs = c.args.sent.now in
-    let w = work_of c.self.inside in
-    let size : w.size ≤ length m = omega (arith, c.size.ensures) in
-    let a : awaits w ≡ true = ap awaits c.self.view_is ∙ sym c.if-not-awaits.ensures.answer in
-    subst (λ v. g.M.Memory.bytes c.feed.new.memory ≡ (feed_after v p m xs).memory) c.self.view_is
-    (ap (λ s. s.memory) (c.feed.ensures.after ∙ feed_after_is w m c.self.invariant size a p xs))
-
-pub returns-clause-job : goal.returns-clause-job
-returns-clause-job g c =
-    let m = g.M.Memory.bytes c.args.memory.now in
-    let p = c.args.palette.now in
-    let xs = c.args.sent.now in
-    let w = work_of c.self.inside in
-    let size : w.size ≤ length m = omega (arith, c.size.ensures) in
-    let a : awaits w ≡ true = ap awaits c.self.view_is ∙ sym c.if-not-awaits.ensures.answer in
-    subst (λ v. work_of (record c.self.inside { progress = c.feed.new.progress }) ≡ at_stage v (feed_after v p m xs)) c.self.view_is
-    (ap (at_stage w) (c.feed.ensures.after ∙ feed_after_is w m c.self.invariant size a p xs))
+    let stage = e.after ∙ feed_after_is w m c.self.invariant size a p xs in
+    let r = numbered c.feed.result in
+    let all = subst
+    (λ v. (r ≡ feed_answer v p m xs) × (n ≡ (feed_after v p m xs).memory) × (after ≡ at_stage v (feed_after v p m xs))
+    × FedOnly v r m n × FeedTakes v xs r m after n × FeedGoesOn v p xs r m after n)
+    c.self.view_is
+    (e.answer ∙ feed_answer_is w m c.self.invariant size a p xs, ap (λ s. s.memory) stage, ap (at_stage w) stage, e.only, e.rest, e.history) in
+    record {
+      answer = all.0;
+      memory = all.1;
+      job = all.2;
+      only = all.3;
+      rule = rule_means c.args.self.now.plan.rule;
+      rest = all.4;
+      history = all.5;
+      keeps = search rules;
+    }

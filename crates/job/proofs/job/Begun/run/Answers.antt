@@ -1,27 +1,12 @@
 use Rattle.std.proofs.Common.{◌≡◌, ◌+◌, true, ◌≤◌, length, Ok, sym, ap, ◌∙◌, subst, arith}
+use Rattle.rules.proofs.Meanings.{rule_means}
 use Rattle.job.specs.States.{work_of}
-use Rattle.job.specs.Works.{runs, at_stage, run_answer, run_after, Story}
+use Rattle.job.specs.Works.{runs, at_stage, run_answer, run_after, Ran, RunGoesOn}
 use Rattle.job.proofs.Under.{never_declined, run_answer_is, run_after_is, run_memory_is, further_is, further_keeps, further_story}
 use Rattle.job.proofs.job.Begun.run.Goals as goal
 
-pub returns-in_err-count-clause-answer : goal.returns-in_err-count-clause-answer
-returns-in_err-count-clause-answer g c =
-    let m = g.M.Memory.bytes c.args.memory.now in
-    let w = work_of c.self.inside in
-    let size : w.size ≤ length m = omega (arith, c.size.ensures) in
-    let r : runs w ≡ true = ap runs c.self.view_is ∙ sym c.if-not-runs.ensures.answer in
-    absurd (never_declined w m c.self.invariant size r c.args.allowance _ c.in_err-count.ensures.answer)
-
-pub returns-in_err-count-clause-memory : goal.returns-in_err-count-clause-memory
-returns-in_err-count-clause-memory g c =
-    let m = g.M.Memory.bytes c.args.memory.now in
-    let w = work_of c.self.inside in
-    let size : w.size ≤ length m = omega (arith, c.size.ensures) in
-    let r : runs w ≡ true = ap runs c.self.view_is ∙ sym c.if-not-runs.ensures.answer in
-    absurd (never_declined w m c.self.invariant size r c.args.allowance _ c.in_err-count.ensures.answer)
-
-pub returns-in_err-count-clause-job : goal.returns-in_err-count-clause-job
-returns-in_err-count-clause-job g c =
+pub returns-in_err-count : goal.returns-in_err-count
+returns-in_err-count g c =
     let m = g.M.Memory.bytes c.args.memory.now in
     let w = work_of c.self.inside in
     let size : w.size ≤ length m = omega (arith, c.size.ensures) in
@@ -36,50 +21,31 @@ invariant_of-self g c =
     let r : runs w ≡ true = ap runs c.self.view_is ∙ sym c.if-not-runs.ensures.answer in
     further_keeps w m c.self.invariant size r c.args.allowance c.in_ok-count.count c.in_ok-count.ensures.answer
 
-pub returns-clause-answer : goal.returns-clause-answer
-returns-clause-answer g c =
+pub returns : goal.returns
+returns g c =
     let m = g.M.Memory.bytes c.args.memory.now in
-    let w = work_of c.self.inside in
-    let size : w.size ≤ length m = omega (arith, c.size.ensures) in
-    let r : runs w ≡ true = ap runs c.self.view_is ∙ sym c.if-not-runs.ensures.answer in
-    subst (λ v. Ok c.in_ok-count.count ≡ run_answer v m c.args.allowance) c.self.view_is
-    (c.in_ok-count.ensures.answer ∙ run_answer_is w m c.self.invariant size r c.args.allowance)
-
-pub returns-clause-memory : goal.returns-clause-memory
-returns-clause-memory g c =
-    let m = g.M.Memory.bytes c.args.memory.now in
-    let w = work_of c.self.inside in
-    let size : w.size ≤ length m = omega (arith, c.size.ensures) in
-    let r : runs w ≡ true = ap runs c.self.view_is ∙ sym c.if-not-runs.ensures.answer in
+    let n = g.M.Memory.bytes c.draw.new.memory in
     let p = c.args.palette.now in
-    subst (λ v. g.M.Memory.bytes c.draw.new.memory ≡ (run_after v p m c.args.allowance).memory) c.self.view_is
-    (c.in_ok-count.ensures.after ∙ run_memory_is w m c.self.invariant size r c.args.allowance p ∙ sym (ap (λ s. s.memory) (run_after_is w m c.self.invariant size r c.args.allowance p)))
-
-pub returns-clause-job : goal.returns-clause-job
-returns-clause-job g c =
-    let m = g.M.Memory.bytes c.args.memory.now in
+    let k = c.args.allowance in
+    let count = c.in_ok-count.count in
+    let e = c.in_ok-count.ensures in
     let w = work_of c.self.inside in
+    let progress = record c.self.inside.progress { drawn = c.self.inside.progress.drawn + count } in
+    let after = work_of (record c.self.inside { progress = progress }) in
     let size : w.size ≤ length m = omega (arith, c.size.ensures) in
     let r : runs w ≡ true = ap runs c.self.view_is ∙ sym c.if-not-runs.ensures.answer in
-    let p = c.args.palette.now in
-    let progress = record c.self.inside.progress { drawn = c.self.inside.progress.drawn + c.in_ok-count.count } in
-    subst (λ v. work_of (record c.self.inside { progress = progress }) ≡ at_stage v (run_after v p m c.args.allowance)) c.self.view_is
-    (further_is w m c.self.invariant size r c.args.allowance c.in_ok-count.count c.in_ok-count.ensures.answer p)
-
-pub returns-clause-history : goal.returns-clause-history
-returns-clause-history g c =
-    let m = g.M.Memory.bytes c.args.memory.now in
-    let w = work_of c.self.inside in
-    let size : w.size ≤ length m = omega (arith, c.size.ensures) in
-    let r : runs w ≡ true = ap runs c.self.view_is ∙ sym c.if-not-runs.ensures.answer in
-    let p = c.args.palette.now in
-    λ start sent s. further_story w m c.self.invariant size r c.args.allowance c.in_ok-count.count c.in_ok-count.ensures.answer p (g.M.Memory.bytes c.draw.new.memory) start sent c.in_ok-count.ensures.history
-    (subst (λ v. Story v p start sent m) (sym c.self.view_is) s)
-
-pub returns-clause-keeps : goal.returns-clause-keeps
-returns-clause-keeps g c =
-    let m = g.M.Memory.bytes c.args.memory.now in
-    let w = work_of c.self.inside in
-    let size : w.size ≤ length m = omega (arith, c.size.ensures) in
-    let r : runs w ≡ true = ap runs c.self.view_is ∙ sym c.if-not-runs.ensures.answer in
-    further_keeps w m c.self.invariant size r c.args.allowance c.in_ok-count.count c.in_ok-count.ensures.answer
+    let memory = e.after ∙ run_memory_is w m c.self.invariant size r k p ∙ sym (ap (λ s. s.memory) (run_after_is w m c.self.invariant size r k p)) in
+    let story : RunGoesOn w p m after n = λ start sent s. further_story w m c.self.invariant size r k count e.answer p n start sent e.history s in
+    let all = subst
+    (λ v. (Ok count ≡ run_answer v m k) × (n ≡ (run_after v p m k).memory) × (after ≡ at_stage v (run_after v p m k)) × Ran v p (Ok count) m n × RunGoesOn v p m after n)
+    c.self.view_is
+    (e.answer ∙ run_answer_is w m c.self.invariant size r k, memory, further_is w m c.self.invariant size r k count e.answer p, e.drew, story) in
+    record {
+      answer = all.0;
+      memory = all.1;
+      job = all.2;
+      pixels = all.3;
+      rule = rule_means c.args.self.now.plan.rule;
+      history = all.4;
+      keeps = further_keeps w m c.self.invariant size r k count e.answer;
+    }
