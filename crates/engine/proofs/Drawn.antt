@@ -1,23 +1,26 @@
 -- What a drawing that lies inside memory keeps of its pixels and its history, by each call.
-use Rattle.std.proofs.Common.{◌≡◌, ℕ, ◌-◌, ◌≤◌, true, List, length, Ok, sym, ap, ◌∙◌, subst, arith}
+use Rattle.std.proofs.Common.{◌≡◌, ℕ, ◌-◌, ◌≤◌, true, false, List, length, Ok, sym, ap, ◌∙◌, subst, arith}
 use Rattle.memory.specs.Bytes.{Sound}
 use Rattle.colour.specs.declared.Colour.{Colour}
 use Rattle.colour.specs.declared.Palette.{Palette}
 use Rattle.colour.specs.Formats.{Format}
 use Rattle.rules.specs.Yields.{Yields}
-use Rattle.window.specs.Places.{area_of, pixels, reach}
+use Rattle.window.specs.Places.{pixels, reach}
 use Rattle.window.proofs.Limits.{limits_of}
 use Rattle.source.proofs.Meanings.{proper}
 use Rattle.engine.specs.declared.drawing.Drawing.{Drawing}
 use Rattle.engine.specs.Painted.{Op, op_of, plotted, painted}
 use Rattle.engine.specs.Fed.{Stage, fed, takes_at, byte_come, Feed}
-use Rattle.engine.specs.Inside.{lies_inside}
-use Rattle.engine.specs.Calls.{allowed, draw_answer, draw_after, Drew, feed_answer, feed_after, FedOnly}
+use Rattle.window.specs.Geometry.{BytePast}
+use Rattle.std.proofs.lemmas.Bool.Decides.{when_true, when_false}
+use Rattle.engine.specs.Inside.{lies_inside, OpByte, Covered, Inside}
+use Rattle.engine.proofs.Bytes.{drawing_exactly}
+use Rattle.engine.specs.Calls.{allowed, draw_answer, draw_after, DrawsAllowed, Drew, feed_answer, feed_after, FeedsCounted, FedOnly}
 use Rattle.feeding.proofs.Feeding.{in_parts}
 use Rattle.engine.specs.Laws.{FeedsInParts, WholesHold}
 use Rattle.engine.specs.Totals.{TakesInAll, TakesAwaited}
 use Rattle.engine.specs.History.{RunsOn, GoesOn}
-use Rattle.engine.proofs.Laws.{painted_holds, painted_only, feed_only}
+use Rattle.engine.proofs.Laws.{painted_holds, painted_only, feed_only, fed_grew}
 use Rattle.engine.proofs.Wholes.{wholes_hold}
 use Rattle.engine.proofs.Totals.{takes_in_all}
 use Rattle.engine.proofs.Histories.{Lies, drawing_lies, drawing_reach, runs_on, goes_on, takes_rest}
@@ -26,6 +29,7 @@ use Rattle.engine.proofs.Histories.{Lies, drawing_lies, drawing_reach, runs_on, 
 pub record DrewSo (o : Op) (p : Palette) (sent first n count : ℕ) (m left : List ℕ) : Type 0 where
   pub answer : Ok count ≡ draw_answer o m first n
   pub after : left ≡ draw_after o p sent first n m
+  pub accepts : DrawsAllowed o (length m) first n (Ok count)
   pub drew : Drew o p sent first (Ok count) m left
   pub history : RunsOn o p first (Ok count) m left
 
@@ -33,6 +37,7 @@ pub record DrewSo (o : Op) (p : Palette) (sent first n count : ℕ) (m left : Li
 pub record FedSo (o : Op) (p : Palette) (s : Stage) (xs : List ℕ) (r : ℕ × ℕ) (t : Stage) : Type 0 where
   pub answer : Ok r ≡ feed_answer o p s xs
   pub after : t ≡ feed_after o p s xs
+  pub counts : FeedsCounted o s (Ok r) t
   pub only : FedOnly o s (Ok r) t.memory
   pub rest : TakesAwaited o s xs (Ok r) t
   pub history : GoesOn o p s xs (Ok r) t
@@ -49,6 +54,18 @@ module _ {R D : Type 0} (yields : R → Yields) (format : D → Format) (narrow 
 
   pub in_all : TakesInAll o p
   in_all = takes_in_all o p (proper d.first)
+
+  -- the test in the words of its law
+  pub is_inside : (size : ℕ) → lies_inside o size ≡ true → Inside o size
+  is_inside size e = when_true (Inside o size) (Covered o → BytePast (OpByte o) size) e (drawing_exactly yields format narrow d size)
+
+  pub not_inside : (size : ℕ) → lies_inside o size ≡ false → Inside o size → ⊥
+  not_inside size e i =
+      let p = when_false (Inside o size) (Covered o → BytePast (OpByte o) size) e (drawing_exactly yields format narrow d size) i.covered in
+      omega (arith, i.below p.address p.meant, p.past)
+
+  pub never_inside : (m : List ℕ) (size : ℕ) → size ≡ length m → false ≡ lies_inside o size → Inside o (length m) → ⊥
+  never_inside m size e t = not_inside (length m) (ap (lies_inside o) (sym e) ∙ sym t)
 
   module _ (m : List ℕ) (sound : Sound m) (size : ℕ) (size_is : size ≡ length m) (tested : true ≡ lies_inside o size) where
     lies : Lies o
@@ -68,6 +85,7 @@ module _ {R D : Type 0} (yields : R → Yields) (format : D → Format) (narrow 
         record {
           answer = rw (here, ← count_is);
           after = rw (here, ← count_is) is;
+          accepts = (is_inside (length m) here, count_is);
           drew = rw is (painted_holds o p sent l.width_some l.inside l.height_some first count m few fits, painted_only o p sent first count m few);
           history = λ z start come waiting r. rw is (runs_on o p lies start z come waiting sent first count m sound fits few r);
         }
@@ -79,6 +97,7 @@ module _ {R D : Type 0} (yields : R → Yields) (format : D → Format) (narrow 
         record {
           answer = rw (inside, f.taken_is, drawn_is);
           after = rw inside f.after;
+          counts = (is_inside (length s.memory) inside, let g = fed_grew o p s xs in omega (arith, ap (λ x. x.drawn) f.after, g.drawn_is, drawn_is));
           only = feed_only o p f;
           rest = λ u. rw (f.after, f.taken_is) (takes_rest o p lies m xs s u);
           history = λ start sent r.

@@ -1,21 +1,19 @@
 -- What an operation keeps, from its start on, of its history.
-use Rattle.std.proofs.Common.{◌≡◌, ℕ, zero, suc, ◌+◌, ◌-◌, ◌*◌, ◌/◌, ◌%◌, ◌^◌, ◌<◌, ◌≤◌, min, Bool, true, false, cond, ltb, leb, List, [], ◌∷◌, ◌++◌, length, ◌⊎◌, inl, inr, get_or, set, take, Some, None, Option, sym, refl, ap, ◌∙◌, subst, ⊎_elim, append_assoc, append-nil, length-append, pow-add, arith}
+use Rattle.std.proofs.Common.{◌≡◌, ℕ, zero, suc, ◌+◌, ◌-◌, ◌*◌, ◌/◌, ◌%◌, ◌<◌, ◌≤◌, min, Bool, true, false, cond, ltb, leb, List, [], ◌∷◌, ◌++◌, length, ◌⊎◌, inl, inr, get_or, take, Some, None, Option, sym, refl, ap, ◌∙◌, subst, ⊎_elim, append_assoc, append-nil, length-append, arith}
 use Rattle.std.proofs.lemmas.Bool.{and_parts, cases_lt, lt-ltb, le-ltb, cond-true, cond-false}
 use Rattle.std.proofs.lemmas.Bool.Decides.{nat_tests}
 use Rattle.std.proofs.lemmas.Nat.{mod_below, div-add-mod'}
-use Rattle.std.proofs.lemmas.List.{length-set, get_or-set_same, get_or_append_left}
-use Rattle.std.proofs.Math.Nat.{div-div-eq-div-mul}
+use Rattle.std.proofs.lemmas.List.{get_or_append_left}
 use Rattle.std.proofs.Math.Numerals.{one-add}
 use Rattle.memory.specs.Bytes.{Sound}
 use Rattle.colour.specs.declared.Colour.{Colour}
 use Rattle.colour.specs.declared.Palette.{Palette}
 use Rattle.window.specs.Geometry.{begins}
 use Rattle.window.specs.Places.{area_of, pixels, place, reach}
-use Rattle.window.specs.Values.{value_at, stored}
-use Rattle.window.proofs.Frames.{length_stored, get_or_stored, sound_stored}
+use Rattle.window.specs.Values.{value_at}
+use Rattle.window.proofs.Frames.{replaced_inside, sound_stored}
 use Rattle.window.proofs.Places.{place_inside}
 use Rattle.source.specs.Origins.{Origin, unused, host, host_bits, image, pattern, bits, sampled, awaited, served}
-use Rattle.source.specs.Rows.{Rows, row_units, unit_of}
 use Rattle.source.specs.Shapes.{AsWide}
 use Rattle.source.specs.Meanings.{Gives, value_of, sent_at}
 use Rattle.source.proofs.Meanings.{Proper, proper, gives}
@@ -29,8 +27,8 @@ use Rattle.engine.specs.Inside.{sources_cover, ends_inside, lies_inside}
 use Rattle.engine.proofs.Bytes.{covered, ends}
 use Rattle.engine.specs.Painted.{Op, op_of, yielded, put_colour, plotted, painted}
 use Rattle.engine.specs.Fed.{Stage, number, takes_at, due, whole, byte_come, fed, bytes_taken}
-use Rattle.engine.specs.Totals.{bytes_for, bytes_used, at_start, UnderWay, TakesRest}
-use Rattle.engine.specs.History.{Replaced, Becomes, number_sent, colour_in, PixelDrawn, History, Reached}
+use Rattle.engine.specs.Totals.{bytes_used, at_start, UnderWay, TakesRest}
+use Rattle.engine.specs.History.{Begins, Becomes, number_sent, colour_in, PixelDrawn, History, Reached}
 use Rattle.engine.proofs.Wholes.{behind, number_is}
 use Rattle.engine.proofs.Orders.{painted_kept}
 use Rattle.engine.proofs.Pictures.{holds, others}
@@ -51,33 +49,12 @@ value_before xs ys a (suc n) h =
     let later = value_before xs ys (a + 1) n (omega arith) in
     omega arith
 
--- the bytes of a value that is stored
-stored_byte : (m : List ℕ) (a b v i : ℕ) → a + b ≤ length m → i < b → get_or (stored m a b v) (a + i) 0 ≡ v / 256 ^ i % 256
-unfolding stored
-stored_byte m a zero v i h k = absurd (omega arith)
-stored_byte m a (suc b) v zero h k =
-    let n = set m a (v % 256) in
-    let e : a + 0 ≡ a = omega arith in
-    rw e (get_or_stored n (a + 1) b (v / 256) a (λ j l e. omega arith) ∙ get_or-set_same m a (v % 256) 0 (omega arith) ∙ omega arith)
-stored_byte m a (suc b) v (suc i) h k =
-    let n = set m a (v % 256) in
-    let e : a + suc i ≡ a + 1 + i = omega arith in
-    let f : 1 + i ≡ suc i = omega arith in
-    rw e
-    (stored_byte n (a + 1) b (v / 256) i (omega (arith, length-set m a (v % 256))) (omega arith)
-    ∙ ap (λ x. x % 256) (div-div-eq-div-mul v 256 (256 ^ i) ∙ ap (λ x. v / x) (sym (pow-add 256 1 i) ∙ ap (λ x. 256 ^ x) f)))
-
 becomes : (o : Op) (k : ℕ) (y : Option Colour) (m : List ℕ) → place o.target o.format.width k + o.format.width ≤ length m
     → Becomes o (k % o.target.width) (k / o.target.width) y m (put_colour o.format.width o.narrow (place o.target o.format.width k) y m)
 unfolding place
 becomes o k None m h = refl
 becomes o k (Some c) m h =
-    let a = begins o.target o.format.width (k % o.target.width) (k / o.target.width) in
-    record {
-      size = length_stored m a o.format.width (o.narrow c);
-      bytes = λ i l. stored_byte m a o.format.width (o.narrow c) i h l;
-      rest = get_or_stored m a o.format.width (o.narrow c);
-    }
+    replaced_inside (begins o.target o.format.width (k % o.target.width) (k / o.target.width)) o.format.width (o.narrow c) m h
 
 -- where the bytes of pixel k begin
 before_is : (f : Origin) (w k : ℕ) → AsWide f w → sent_at f w (k % w) (k / w) ≡ before f k
@@ -459,3 +436,7 @@ module _ {R D : Type 0} (yields : R → Yields) (format : D → Format) (narrow 
         joined = refl;
         count = sym (before_is o.first o.target.width 0 l.first_wide ∙ none_before o.first l.first_proper);
       }
+
+pub drawing_begins : {R D : Type 0} (yields : R → Yields) (format : D → Format) (narrow : D → Colour → ℕ) (d : Drawing R D) (size : ℕ)
+    → Begins (op_of yields format narrow d) (lies_inside (op_of yields format narrow d) size)
+drawing_begins yields format narrow d size e = begun yields format narrow d size e

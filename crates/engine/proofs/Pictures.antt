@@ -1,5 +1,5 @@
 -- What a history leaves of each pixel, and of every other byte.
-use Rattle.std.proofs.Common.{◌≡◌, ℕ, zero, suc, ◌+◌, ◌*◌, ◌/◌, ◌%◌, ◌^◌, ◌<◌, ◌≤◌, ◌≢◌, List, length, get_or, Some, None, Option, refl, sym, ap, ◌∙◌, subst, ⊎_elim, mul-suc, pow-add, pow_pos, lit<, arith}
+use Rattle.std.proofs.Common.{◌≡◌, ℕ, zero, suc, ◌+◌, ◌*◌, ◌/◌, ◌%◌, ◌^◌, ◌<◌, ◌≤◌, ◌≢◌, List, get_or, Some, None, Option, refl, sym, ap, ◌∙◌, subst, ⊎_elim, mul-suc, pow-add, pow_pos, lit<, arith}
 use lib.Arith.{mod-mul}
 use Rattle.std.proofs.lemmas.Bool.{cases_lt}
 use Rattle.std.proofs.Math.Nat.{div-div-eq-div-mul}
@@ -12,7 +12,7 @@ use Rattle.window.specs.Values.{value_at}
 use Rattle.window.proofs.Places.{places_apart}
 use Rattle.engine.specs.Painted.{Op}
 use Rattle.engine.specs.Laws.{value_after}
-use Rattle.engine.specs.History.{Replaced, Becomes, colour_in, PixelDrawn, History, held, EachHeld, OthersKept}
+use Rattle.engine.specs.History.{Becomes, colour_in, History, EachHeld, OthersKept}
 
 -- a value rests on its bytes alone
 value_same : (m n : List ℕ) (a b : ℕ) → ((i : ℕ) → i < b → get_or n (a + i) 0 ≡ get_or m (a + i) 0) → value_at n a b ≡ value_at m a b

@@ -1,23 +1,16 @@
 -- The history of an operation: what memory was before each of its pixels, from its start on.
-use Rattle.std.specs.Prelude.{◌≡◌, ℕ, ◌+◌, ◌/◌, ◌%◌, ◌^◌, ◌<◌, ◌≤◌, List, ◌++◌, length, take, Some, None, Ok, Err, Option, Result, slice_index}
+use Rattle.std.specs.Prelude.{◌≡◌, ℕ, ◌+◌, ◌/◌, ◌%◌, ◌<◌, ◌≤◌, Bool, true, List, [], ◌++◌, length, take, Some, None, Ok, Err, Option, Result, slice_index}
 use Rattle.colour.specs.declared.Colour.{Colour}
 use Rattle.colour.specs.declared.Palette.{Palette}
 use Rattle.window.specs.Apart.{Off}
 use Rattle.window.specs.Geometry.{begins}
-use Rattle.window.specs.Places.{pixels}
-use Rattle.window.specs.Values.{value_at}
+use Rattle.window.specs.Values.{value_at, Replaced}
 use Rattle.source.specs.Origins.{awaited}
 use Rattle.source.specs.Meanings.{value_of, sent_at}
 use Rattle.engine.specs.Painted.{Op}
 use Rattle.engine.specs.Fed.{Stage}
 use Rattle.engine.specs.Laws.{value_after}
-use Rattle.engine.specs.Totals.{UnderWay, bytes_used}
-
--- memory n is m with b bytes from a on replaced by those of v, low byte first
-pub record Replaced (a b v : ℕ) (m n : List ℕ) : Type 0 where
-  pub size : length n ≡ length m
-  pub bytes : (i : ℕ) → i < b → slice_index n (a + i) ≡ v / 256 ^ i % 256
-  pub rest : (x : ℕ) → Off a b x → slice_index n x ≡ slice_index m x
+use Rattle.engine.specs.Totals.{UnderWay, bytes_used, at_start}
 
 -- from memory m to n the pixel in column c and row r became a colour, narrowed; none left all as it was
 abbrev pub Becomes : Op → ℕ → ℕ → Option Colour → List ℕ → List ℕ → Type 0
@@ -75,6 +68,10 @@ pub record Reached (o : Op) (p : Palette) (start sent : List ℕ) (s : Stage) : 
   pub used : List ℕ
   pub joined : sent ≡ used ++ s.waiting
   pub count : length used ≡ bytes_used o s.drawn
+
+-- an operation that lies inside memory begins with memory as it is, no pixel and no byte
+abbrev pub Begins : Op → Bool → Type 0
+Begins o inside = inside ≡ true → (p : Palette) (m : List ℕ) → Reached o p m [] (at_start m)
 
 -- so many of the bytes xs led on from a stage to t, whatever the start was and the bytes that had come; where the feed was
 -- declined, the stage is as it was

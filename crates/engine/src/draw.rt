@@ -1,10 +1,10 @@
 // Pixels drawn one after another.
-ghost use Rattle.std.specs.Prelude.{◌≡◌, ℕ, ◌+◌};
+ghost use Rattle.std.specs.Prelude.{◌≡◌, ℕ, ◌+◌, length};
 ghost use Rattle.refusal.specs.Numbers.{numbered};
 ghost use Rattle.window.specs.Places.{area_of, place};
 ghost use Rattle.window.specs.Values.{stored};
 ghost use Rattle.engine.specs.Painted.{op_of, yielded, plotted, painted};
-ghost use Rattle.engine.specs.Calls.{allowed, draw_answer, draw_after, Drew};
+ghost use Rattle.engine.specs.Calls.{allowed, draw_answer, draw_after, DrawsAllowed, Drew};
 ghost use Rattle.engine.specs.History.{RunsOn};
 
 use crate::drawing::Drawing;
@@ -90,6 +90,8 @@ impl<R: PixelRule, D: Canvas> Drawing<R, D> {
         ensures after { M.bytes memory.new
             ≡ draw_after (op_of R.yields D.format D.narrowed self.now) palette.now sent first allowance
             (M.bytes memory.old) }
+        ensures accepts { DrawsAllowed (op_of R.yields D.format D.narrowed self.now)
+            (length (M.bytes memory.old)) first allowance (numbered result) }
         ensures drew { Drew (op_of R.yields D.format D.narrowed self.now) palette.now sent first
             (numbered result) (M.bytes memory.old) (M.bytes memory.new) }
         ensures history { RunsOn (op_of R.yields D.format D.narrowed self.now) palette.now first

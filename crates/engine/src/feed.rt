@@ -3,7 +3,7 @@ ghost use Rattle.std.specs.Prelude.{◌≡◌, ℕ, ◌+◌, ◌-◌, ◌<◌, �
 ghost use Rattle.refusal.specs.Numbers.{numbered};
 ghost use Rattle.engine.specs.Painted.{op_of};
 ghost use Rattle.engine.specs.Fed.{waits, number, stage, takes, come, Feed};
-ghost use Rattle.engine.specs.Calls.{feed_answer, feed_after, FedOnly};
+ghost use Rattle.engine.specs.Calls.{feed_answer, feed_after, FeedsCounted, FedOnly};
 ghost use Rattle.engine.specs.Laws.{FeedsInParts, WholesHold};
 ghost use Rattle.engine.specs.Totals.{TakesInAll, TakesAwaited};
 ghost use Rattle.engine.specs.History.{GoesOn};
@@ -110,6 +110,9 @@ impl<R: PixelRule, D: Canvas> Drawing<R, D> {
         ensures after { stage (M.bytes memory.new) progress.new
             ≡ feed_after (op_of R.yields D.format D.narrowed self.now) palette.now
             (stage (M.bytes memory.old) progress.old) sent.now }
+        ensures counts { FeedsCounted (op_of R.yields D.format D.narrowed self.now)
+            (stage (M.bytes memory.old) progress.old) (numbered result)
+            (stage (M.bytes memory.new) progress.new) }
         ensures only { FedOnly (op_of R.yields D.format D.narrowed self.now)
             (stage (M.bytes memory.old) progress.old) (numbered result) (M.bytes memory.new) }
         ensures parts { FeedsInParts (op_of R.yields D.format D.narrowed self.now) palette.now }

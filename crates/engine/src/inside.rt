@@ -2,6 +2,7 @@
 ghost use Rattle.std.specs.Prelude.{◌≡◌, Bool};
 ghost use Rattle.engine.specs.Painted.{op_of};
 ghost use Rattle.engine.specs.Inside.{sources_cover, lies_inside, InsideExactly};
+ghost use Rattle.engine.specs.History.{Begins};
 
 use crate::drawing::Drawing;
 use colour::{Canvas, Readable};
@@ -19,13 +20,15 @@ impl<R: PixelRule, D: Canvas> Drawing<R, D> {
             && self.second.awaited() == 0
     }
 
-    /// Whether the drawing lies inside a memory of `size` bytes: each pixel of its target, and what its sources have in
-    /// memory, and whether the sources have a pixel for each of the target. A window of a source is as wide as the target and
-    /// no lower; a pattern and rows of bits have as many columns; the second source is never sent by the host.
-    #[tactic(auto, using(crate::proofs::Bytes::drawing_exactly))]
+    /// Whether the drawing lies inside a memory of `size` bytes: its sources have a pixel for each of the target, and what they
+    /// and the target have in memory ends there. A source's window is as wide as the target, and as high or higher; a pattern
+    /// and rows of bits have as many columns; the host sends for the first source alone.
+    #[tactic(auto, using(crate::proofs::Bytes::drawing_exactly, crate::proofs::Histories::drawing_begins))]
     pub fn lies_inside(&self, size: u32) -> bool
         ensures is { result ≡ lies_inside (op_of R.yields D.format D.narrowed self.now) size }
         ensures exactly { InsideExactly (op_of R.yields D.format D.narrowed self.now) size
+            (lies_inside (op_of R.yields D.format D.narrowed self.now) size) }
+        ensures begins { Begins (op_of R.yields D.format D.narrowed self.now)
             (lies_inside (op_of R.yields D.format D.narrowed self.now) size) }
     {
         let size = size as u64;

@@ -3,7 +3,7 @@ use Rattle.std.proofs.Common.{◌≡◌, ℕ, ◌+◌, ◌*◌, ◌<◌, ◌≤�
 use Rattle.formats.specs.declared.Depth.{Depth}
 use Rattle.formats.specs.Depths.{depth_format}
 use Rattle.rules.specs.declared.chosen.Rule.{Rule}
-use Rattle.window.specs.Places.{pixels, reach}
+use Rattle.window.specs.Places.{pixels}
 use Rattle.window.proofs.Limits.{limits_of}
 use Rattle.window.proofs.Places.{place_inside}
 use Rattle.source.specs.Origins.{Origin, taken_from, taken}

@@ -1,5 +1,5 @@
 -- A job as plain values, and what its calls answer and leave.
-use Rattle.std.specs.Prelude.{◌≡◌, ℕ, ◌+◌, ◌-◌, min, Bool, true, cond, ◌&&◌, List, [], length, Ok, Err, Option, Result, ◌==◌, nat_le, nat_lt}
+use Rattle.std.specs.Prelude.{◌≡◌, ℕ, ◌+◌, ◌-◌, ◌*◌, ◌<◌, ◌≤◌, min, Bool, true, cond, ◌&&◌, ◌⊎◌, List, [], length, Ok, Err, Option, Result, ◌==◌, nat_le, nat_lt}
 use Rattle.colour.specs.declared.Palette.{Palette}
 use Rattle.window.specs.Places.{pixels}
 use Rattle.source.specs.Origins.{awaited}
@@ -127,3 +127,26 @@ FeedTakes w xs r m v n = TakesAwaited (op_at w.plan) (stage_of w m) xs r (stage_
 -- so does a run, which takes none
 abbrev pub RunGoesOn : Work → Palette → List ℕ → Work → List ℕ → Type 0
 RunGoesOn w p m v n = (start sent : List ℕ) → Story w p start sent m → Story v p start sent n
+
+-- the pixels of the rectangle
+abbrev pub rectangle : Work → ℕ
+rectangle w = w.plan.target.width * w.plan.target.height
+
+-- a feed is for a job that awaits bytes, over a memory that is large enough, and the pixels that it answers are those that the job has
+-- more; it answers 8 where memory is too small, and else 9 where no byte is awaited
+abbrev pub FeedsAwaited : Work → List ℕ → Result (ℕ × ℕ) ℕ → Work → Type 0
+FeedsAwaited w m (Ok r) v =
+    (w.size ≤ length m) × (0 < awaited w.plan.first) × (w.drawn < rectangle w) × (v.drawn ≡ w.drawn + r.1)
+FeedsAwaited w m (Err e) v =
+    ((e ≡ 8) × (length m < w.size))
+    ⊎ ((e ≡ 9) × (w.size ≤ length m) × (0 < awaited w.plan.first → rectangle w ≤ w.drawn))
+
+-- a run is for a job that memory serves, and draws as many pixels as are allowed and left; it answers 8 where memory is too small, and
+-- else 10 where the host serves the job or no pixel is left
+abbrev pub RunsAllowed : Work → List ℕ → ℕ → Result ℕ ℕ → Work → Type 0
+RunsAllowed w m n (Ok c) v =
+    (w.size ≤ length m) × (awaited w.plan.first ≡ 0) × (w.drawn < rectangle w) × (c ≡ min n (rectangle w - w.drawn))
+    × (v.drawn ≡ w.drawn + c)
+RunsAllowed w m n (Err e) v =
+    ((e ≡ 8) × (length m < w.size))
+    ⊎ ((e ≡ 10) × (w.size ≤ length m) × (awaited w.plan.first ≡ 0 → rectangle w ≤ w.drawn))

@@ -4,7 +4,7 @@ ghost use Rattle.refusal.specs.Numbers.{numbered};
 ghost use Rattle.rules.specs.Meanings.{RuleMeans};
 ghost use Rattle.job.specs.Bounds.{clearing_of, AcceptedInside, HostBytes};
 ghost use Rattle.job.specs.Table.{ByTheTable};
-ghost use Rattle.job.specs.Works.{LiesInside, Keeps, clearing, awaits, runs, at_stage, feed_answer, feed_after, run_answer, run_after, Ran, FedOnly, Begins, FeedTakes, FeedGoesOn, RunGoesOn};
+ghost use Rattle.job.specs.Works.{LiesInside, Keeps, clearing, awaits, runs, at_stage, feed_answer, feed_after, run_answer, run_after, Ran, FedOnly, FeedsAwaited, RunsAllowed, Begins, FeedTakes, FeedGoesOn, RunGoesOn};
 
 use crate::job::{Begun, Cleared, Closed, Declined, Draft};
 use crate::settings::Settings;
@@ -80,7 +80,7 @@ impl Begun {
     }
 
     // Bytes for a job that the host serves. Answers the bytes taken and the pixels drawn.
-    #[tactic(auto, using(rules::proofs::Meanings::rule_means))]
+    #[tactic(auto, using(rules::proofs::Meanings::rule_means, crate::proofs::Under::feeds_awaited))]
     pub fn feed<M: Memory>(
         &mut self,
         memory: &mut M,
@@ -90,6 +90,7 @@ impl Begun {
         ensures answer { numbered result ≡ feed_answer self.old palette.now (M.bytes memory.old) sent.now }
         ensures memory { M.bytes memory.new ≡ (feed_after self.old palette.now (M.bytes memory.old) sent.now).memory }
         ensures job { self.new ≡ at_stage self.old (feed_after self.old palette.now (M.bytes memory.old) sent.now) }
+        ensures allowed { FeedsAwaited self.old (M.bytes memory.old) (numbered result) self.new }
         ensures only { FedOnly self.old (numbered result) (M.bytes memory.old) (M.bytes memory.new) }
         ensures rule { RuleMeans self.old.plan.rule }
         ensures rest { FeedTakes self.old sent.now (numbered result)
@@ -108,7 +109,7 @@ impl Begun {
     }
 
     // Draws as many pixels as are allowed and left of a job that memory serves, and answers how many that were.
-    #[tactic(auto, using(window::proofs::Limits::pixels_few, rules::proofs::Meanings::rule_means))]
+    #[tactic(auto, using(window::proofs::Limits::pixels_few, rules::proofs::Meanings::rule_means, crate::proofs::Under::runs_allowed))]
     pub fn run<M: Memory>(
         &mut self,
         memory: &mut M,
@@ -118,6 +119,7 @@ impl Begun {
         ensures answer { numbered result ≡ run_answer self.old (M.bytes memory.old) allowance }
         ensures memory { M.bytes memory.new ≡ (run_after self.old palette.now (M.bytes memory.old) allowance).memory }
         ensures job { self.new ≡ at_stage self.old (run_after self.old palette.now (M.bytes memory.old) allowance) }
+        ensures allowed { RunsAllowed self.old (M.bytes memory.old) allowance (numbered result) self.new }
         ensures pixels { Ran self.old palette.now (numbered result) (M.bytes memory.old) (M.bytes memory.new) }
         ensures rule { RuleMeans self.old.plan.rule }
         ensures history { RunGoesOn self.old palette.now (M.bytes memory.old)

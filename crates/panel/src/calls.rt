@@ -123,7 +123,7 @@ impl<M: Memory> Panel<M> {
     pub fn run(&mut self, pixels: u32) -> Result<u32, Refusal>
         ensures answer { numbered result ≡ run_answer (seen M.bytes self.old) (seen M.bytes self.old).doing pixels }
         ensures after { seen M.bytes self.new ≡ run_after (seen M.bytes self.old) (seen M.bytes self.old).doing pixels }
-        ensures history { RunGoesOn (seen M.bytes self.old) (seen M.bytes self.old).doing
+        ensures history { RunGoesOn (seen M.bytes self.old) (seen M.bytes self.old).doing pixels
             (numbered result) (seen M.bytes self.new) }
     {
         let Activity::Drawing(begun) = &mut self.activity else {

@@ -102,7 +102,7 @@ const LEVEL_LIMIT: u8 = 32;
 impl<F: Copy, S: Copy> Blend<F, S> {
     ghost use Rattle.rules.specs.Levels.{blend_at};
 
-    // A blend at a level that a host asks for.
+    /// A blend of two sources at a level that a host asks for, 0 to 32; a higher one is declined with `LevelTooHigh`.
     pub fn new(level: u8, first: F, second: S) -> Result<Blend<F, S>, Refusal>
         ensures ok { level ≤ 32 → numbered result ≡ Ok (blend_at level first second) }
         ensures too_high { 32 < level → numbered result ≡ Err 6 }

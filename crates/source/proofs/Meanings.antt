@@ -10,7 +10,7 @@ use Rattle.window.proofs.Geometry.{in_row_order, repeats, byte_inside, byte_past
 use Rattle.window.proofs.Limits.{limits_of}
 use Rattle.source.specs.Rows.{rows_of, bit_of}
 use Rattle.source.specs.Pictures.{unit_begins}
-use Rattle.source.specs.Origins.{Origin, unused, host, host_bits, image, pattern, bits, sampled, served, origin_of}
+use Rattle.source.specs.Origins.{Origin, unused, host, host_bits, image, pattern, bits, sampled, served, origin_of, OriginIs}
 use Rattle.source.specs.Meanings.{away, value_of, Gives, Serves, SourceByte}
 use Rattle.source.specs.Reaches.{reach_of}
 use Rattle.source.specs.declared.source.Source.{Source}
@@ -52,6 +52,14 @@ bit_in_byte m s (suc w) a v h =
     ∙ ap (λ n. n % 2) (shr-shr all 8 u)
     ∙ ap (λ n. all / 2 ^ n % 2) (sym z)))
     (cases_lt v 8)
+
+pub origin_is : (s : Source) → OriginIs s (origin_of s)
+origin_is source.Unused = tt
+origin_is (source.Host _) = refl
+origin_is (source.HostBits _) = refl
+origin_is (source.Image _ _) = (refl, refl)
+origin_is (source.Pattern _ _ _) = (refl, refl, refl)
+origin_is (source.Bits _ _) = (refl, refl)
 
 pub gives : (s : Source) (m : List ℕ) → Sound m → (n : ℕ) → Gives (origin_of s) m n
 gives source.Unused m sound n w c row e h = refl

@@ -1,12 +1,12 @@
 -- The laws of one-bit pictures.
-use Rattle.std.proofs.Common.{◌≡◌, ℕ, ◌+◌, ◌-◌, ◌*◌, ◌/◌, ◌%◌, ◌<◌, ◌≤◌, sym, ap, ◌∙◌, refl, ⊎_elim, mul_comm, arith}
+use Rattle.std.proofs.Common.{◌≡◌, ℕ, ◌+◌, ◌-◌, ◌*◌, ◌/◌, ◌%◌, ◌<◌, ◌≤◌, Bool, true, false, cond, nat_lt, Ok, Err, Result, inl, inr, sym, ap, ◌∙◌, refl, ⊎_elim, mul_comm, arith}
 use Rattle.std.proofs.lemmas.Nat.{mul-le, mod_below, div_below, div-mul-add, mod-mul-add, div-add-mod', le-div}
-use Rattle.std.proofs.lemmas.Bool.{cases_lt}
+use Rattle.std.proofs.lemmas.Bool.{cases_lt, ltb-true, ltb-false}
 use Rattle.std.proofs.Math.Nat.{lt-div-mul-add, div-mul-le_self}
 use Rattle.window.specs.Geometry.{BytePast}
 use Rattle.source.specs.declared.rows.BitRows.{BitRows}
 use Rattle.source.proofs.Reaches.{unit_some}
-use Rattle.source.specs.Rows.{Rows, rows_of, row_units, depth_in_row, unit_of, unit_pixels, rows_reach}
+use Rattle.source.specs.Rows.{Rows, rows_of, rows_at, RowsMade, row_units, depth_in_row, unit_of, unit_pixels, rows_reach}
 use Rattle.source.specs.Meanings.{away}
 use Rattle.source.specs.Pictures.{Away, BitsInRowOrder, FewestUnits, GivesItsOwn, UnitByte, unit_begins}
 
@@ -156,3 +156,11 @@ row_fewest b = fewest_units (rows_of b) (unit_some b.unit)
 
 pub row_gives : (b : BitRows) (k : ℕ) → GivesItsOwn (rows_of b) k (unit_pixels (rows_of b) k)
 row_gives b k = gives_its_own (rows_of b) (unit_some b.unit) b.some k
+
+pub rows_made : (r : Rows) (x : Result Rows ℕ) → x ≡ rows_at r → RowsMade r x
+rows_made r x e = rw e (by (nat_lt r.start r.unit) (nat_lt 0 r.columns) refl refl)
+  where
+    by : (b c : Bool) → nat_lt r.start r.unit ≡ b → nat_lt 0 r.columns ≡ c → RowsMade r (cond b (cond c (Ok r) (Err 7)) (Err 5))
+    by true true e f = (refl, ltb-true r.start r.unit e, ltb-true 0 r.columns f)
+    by true false e f = let none = ltb-false 0 r.columns f in inr (refl, ltb-true r.start r.unit e, omega arith)
+    by false c e f = inl (refl, ltb-false r.start r.unit e)

@@ -5,7 +5,7 @@ use Rattle.std.proofs.lemmas.Nat.{mul-le}
 use Rattle.std.specs.Bool.{MatchBool}
 use Rattle.window.specs.declared.area.Area.{Area}
 use Rattle.source.specs.Origins.{Origin, unused, host, host_bits, image, pattern, bits}
-use Rattle.source.specs.Shapes.{covers, HasEach, CoversExactly}
+use Rattle.source.specs.Shapes.{HasEach, CoversExactly}
 
 -- where the columns decide
 by_columns : (o : Origin) (w h columns : ℕ) → (columns ≡ w → HasEach o w h) → (HasEach o w h → columns ≡ w)

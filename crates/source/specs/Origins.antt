@@ -1,5 +1,5 @@
 -- Where an operation takes the values of its pixels from.
-use Rattle.std.specs.Prelude.{ℕ, ◌/◌, ◌%◌, ◌^◌, List}
+use Rattle.std.specs.Prelude.{◌≡◌, ℕ, ◌/◌, ◌%◌, ◌^◌, List}
 use Rattle.window.specs.declared.area.Area.{Area}
 use Rattle.window.specs.Places.{area_of, place, cell}
 use Rattle.window.specs.Values.{value_at}
@@ -72,3 +72,13 @@ served (host_bits r) k = unit_pixels r k
 served (image _ _) k = 0
 served (pattern _ _ _) k = 0
 served (bits _ _) k = 0
+
+-- a source has the origin of its own sort, with its own numbers
+abbrev pub OriginIs : Source → Origin → Type 0
+OriginIs Unused unused = Unit {0}
+OriginIs (Host s) (host b) = b ≡ s.bytes
+OriginIs (HostBits r) (host_bits q) = q ≡ rows_of r
+OriginIs (Image w s) (image a b) = (a ≡ area_of w) × (b ≡ s.bytes)
+OriginIs (Pattern w s c) (pattern a b columns) = (a ≡ area_of w) × (b ≡ s.bytes) × (columns ≡ c)
+OriginIs (Bits r a) (bits q start) = (q ≡ rows_of r) × (start ≡ a)
+OriginIs _ _ = ⊥

@@ -1,5 +1,5 @@
 -- One-bit pictures: which bit of which unit a pixel takes.
-use Rattle.std.specs.Prelude.{ℕ, ◌+◌, ◌-◌, ◌*◌, ◌/◌, ◌%◌, min, if◌then◌else◌, Ok, Err, Result, nat_lt}
+use Rattle.std.specs.Prelude.{◌≡◌, ℕ, ◌+◌, ◌-◌, ◌*◌, ◌/◌, ◌%◌, ◌<◌, ◌≤◌, ◌⊎◌, min, if◌then◌else◌, Ok, Err, Result, nat_lt}
 use Rattle.refusal.specs.declared.Refusal.{Refusal}
 use Rattle.refusal.specs.Numbers.{number_of}
 use Rattle.source.specs.declared.rows.BitRows.{BitRows}
@@ -53,3 +53,9 @@ rows_at r = if nat_lt r.start r.unit then (if nat_lt 0 r.columns then Ok r else 
 abbrev pub shown_rows : Result BitRows Refusal → Result Rows ℕ
 shown_rows (Ok b) = Ok (rows_of b)
 shown_rows (Err e) = Err (number_of e)
+
+-- rows that are made are those that were asked for, their start bit is a bit of the unit, and they have columns; else 5 is
+-- answered where it is none, and 7 where it is one but there are no columns
+abbrev pub RowsMade : Rows → Result Rows ℕ → Type 0
+RowsMade r (Ok q) = (q ≡ r) × (r.start < r.unit) × (0 < r.columns)
+RowsMade r (Err n) = ((n ≡ 5) × (r.unit ≤ r.start)) ⊎ ((n ≡ 7) × (r.start < r.unit) × (r.columns ≡ 0))

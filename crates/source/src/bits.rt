@@ -1,7 +1,7 @@
 // The bits of one-bit pictures.
 ghost use Rattle.std.specs.Prelude.{◌≡◌, ℕ, ◌+◌, ◌-◌, ◌*◌, ◌/◌, ◌%◌, ◌^◌, ◌<◌, ◌≤◌};
 ghost use Rattle.source.specs.Units.{unit_bits};
-ghost use Rattle.source.specs.Rows.{rows_of, skipped, row_units, depth_in_row, bit_of, unit_of, unit_pixels, bit_address, rows_reach, rows_at, shown_rows};
+ghost use Rattle.source.specs.Rows.{rows_of, skipped, row_units, depth_in_row, bit_of, unit_of, unit_pixels, bit_address, rows_reach, rows_at, shown_rows, RowsMade};
 ghost use Rattle.source.specs.Pictures.{BitsInRowOrder, FewestUnits, GivesItsOwn};
 
 use crate::rows::{BitRows, Unit};
@@ -18,8 +18,12 @@ impl Unit {
 
 impl BitRows {
     // Rows of bits, or a refusal where the start bit is not a bit of the unit. Rows of no columns are declined as a side of 0 is.
+    #[tactic(auto, using(crate::proofs::Pictures::rows_made))]
     pub fn new(unit: Unit, start_bit: u8, columns: u16) -> Result<BitRows, Refusal>
-        ensures { shown_rows result ≡ rows_at (record { unit = unit_bits unit; start = start_bit; columns = columns }) }
+        ensures is { shown_rows result
+            ≡ rows_at (record { unit = unit_bits unit; start = start_bit; columns = columns }) }
+        ensures exactly { RowsMade (record { unit = unit_bits unit; start = start_bit; columns = columns })
+            (shown_rows result) }
     {
         if start_bit >= unit.bits() {
             return Err(Refusal::StartBitPastUnit);

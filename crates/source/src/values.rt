@@ -1,7 +1,7 @@
 // The values that a source gives.
 ghost use Rattle.std.specs.Prelude.{◌≡◌, ℕ, ◌/◌, ◌%◌, ◌^◌, ◌<◌, ◌≤◌};
 ghost use Rattle.window.specs.Values.{value_at};
-ghost use Rattle.source.specs.Origins.{origin_of, sampled, awaited, served};
+ghost use Rattle.source.specs.Origins.{origin_of, sampled, awaited, served, OriginIs};
 ghost use Rattle.source.specs.Reaches.{reach_of, TakenInside};
 ghost use Rattle.source.specs.Shapes.{covers, CoversExactly};
 ghost use Rattle.window.specs.Geometry.{LeastSize};
@@ -30,9 +30,11 @@ fn held_at<M: Memory>(memory: &M, address: u64) -> u32
 
 impl Source {
     // The value of pixel k, where the host sent a number: any number where it serves nothing, since then no source takes it.
+    #[tactic(auto, using(crate::proofs::Meanings::origin_is))]
     pub fn value<M: Memory>(&self, memory: &M, sent: u32, k: u32) -> u32
         ensures is { result ≡ sampled (origin_of self.now) (M.bytes memory.now) sent k }
         ensures gives { Gives (origin_of self.now) (M.bytes memory.now) sent }
+        ensures own { OriginIs self.now (origin_of self.now) }
     {
         match *self {
             Source::Unused => 0,
@@ -76,7 +78,8 @@ impl Source {
         }
     }
 
-    // Whether the source has a pixel for each of a rectangle.
+    /// Whether the source has a pixel for each of a rectangle of `width` by `height` pixels, in the same column and row: a window
+    /// is as wide, and as high or higher; a pattern and rows of bits have as many columns; the host sends any.
     #[tactic(auto, using(crate::proofs::Shapes::covers_exactly))]
     pub fn covers(&self, width: u16, height: u16) -> bool
         ensures is { result ≡ covers (origin_of self.now) width height }

@@ -4,7 +4,8 @@ use lib.Arith.{mod-mul}
 use Rattle.std.proofs.lemmas.List.{length-set, set_comm, set-set, set-get_or, get_or-set_same, get_or-set_other}
 use Rattle.memory.specs.Bytes.{Sound}
 use Rattle.memory.specs.View.{set_sound}
-use Rattle.window.specs.Values.{value_at, stored}
+use Rattle.std.proofs.Math.Nat.{div-div-eq-div-mul}
+use Rattle.window.specs.Values.{value_at, stored, LowByteFirst, ReplacedInside}
 use Rattle.window.specs.Apart.{Off, Apart}
 
 off_here : (a b x : ℕ) → Off a (suc b) x → x ≢ a
@@ -100,3 +101,48 @@ pub sound_stored : (m : List ℕ) → Sound m → (a b v : ℕ) → Sound (store
 unfolding stored
 sound_stored m s a zero v = s
 sound_stored m s a (suc b) v = sound_stored (set m a (v % 256)) (set_sound m s a (v % 256) (omega arith)) (a + 1) b (v / 256)
+
+-- the bytes of a value that is stored
+stored_byte : (m : List ℕ) (a b v i : ℕ) → a + b ≤ length m → i < b → get_or (stored m a b v) (a + i) 0 ≡ v / 256 ^ i % 256
+unfolding stored
+stored_byte m a zero v i h k = absurd (omega arith)
+stored_byte m a (suc b) v zero h k =
+    let n = set m a (v % 256) in
+    let e : a + 0 ≡ a = omega arith in
+    rw e (get_or_stored n (a + 1) b (v / 256) a (self_off a b) ∙ get_or-set_same m a (v % 256) 0 (omega arith) ∙ omega arith)
+stored_byte m a (suc b) v (suc i) h k =
+    let n = set m a (v % 256) in
+    let e : a + suc i ≡ a + 1 + i = omega arith in
+    let f : 1 + i ≡ suc i = omega arith in
+    rw e
+    (stored_byte n (a + 1) b (v / 256) i (omega (arith, length-set m a (v % 256))) (omega arith)
+    ∙ ap (λ x. x % 256) (div-div-eq-div-mul v 256 (256 ^ i) ∙ ap (λ x. v / x) (sym (pow-add 256 1 i) ∙ ap (λ x. 256 ^ x) f)))
+
+pub replaced_inside : (a b v : ℕ) (m : List ℕ) → ReplacedInside a b v m (stored m a b v)
+replaced_inside a b v m h = record { size = length_stored m a b v; bytes = λ i l. stored_byte m a b v i h l; rest = get_or_stored m a b v }
+
+-- the bytes above the lowest
+byte_above : (x y i : ℕ) → x < 256 → (x + 256 * y) / 256 ^ suc i % 256 ≡ y / 256 ^ i % 256
+byte_above x y i h =
+    let f : 1 + i ≡ suc i = omega arith in
+    let upper : (x + 256 * y) / 256 ≡ y = omega arith in
+    ap (λ n. (x + 256 * y) / 256 ^ n % 256) (sym f)
+    ∙ ap (λ n. (x + 256 * y) / n % 256) (pow-add 256 1 i)
+    ∙ ap (λ n. n % 256) (sym (div-div-eq-div-mul (x + 256 * y) 256 (256 ^ i)))
+    ∙ ap (λ n. n / 256 ^ i % 256) upper
+
+each_byte : (m : List ℕ) → Sound m → (a b : ℕ) → LowByteFirst m (a + 1) b (value_at m (a + 1) b) → (i : ℕ) → i < suc b
+    → (get_or m a 0 + 256 * value_at m (a + 1) b) / 256 ^ i % 256 ≡ get_or m (a + i) 0
+each_byte m s a b rest zero h = let e : a + 0 ≡ a = omega arith in rw e (omega (arith, s.bytes a))
+each_byte m s a b rest (suc i) h =
+    let e : a + suc i ≡ a + 1 + i = omega arith in
+    rw e (byte_above (get_or m a 0) (value_at m (a + 1) b) i (s.bytes a) ∙ rest.bytes i (omega arith))
+
+-- the bytes of a value that is read
+pub low_byte_first : (m : List ℕ) → Sound m → (a b : ℕ) → LowByteFirst m a b (value_at m a b)
+unfolding value_at
+low_byte_first m s a zero = record { bytes = λ i h. absurd (omega arith); few = lit< tt }
+low_byte_first m s a (suc b) =
+    let rest = low_byte_first m s (a + 1) b in
+    let one : 1 + b ≡ suc b = omega arith in
+    record { bytes = each_byte m s a b rest; few = omega (arith, s.bytes a, rest.few, pow-add 256 1 b, ap (λ x. 256 ^ x) one) }

@@ -1,12 +1,12 @@
 -- The geometry of a window.
-use Rattle.std.proofs.Common.{◌≡◌, ℕ, ◌+◌, ◌-◌, ◌*◌, ◌<◌, ◌≤◌, Bool, true, false, eqb, refl, arith}
+use Rattle.std.proofs.Common.{◌≡◌, ℕ, ◌+◌, ◌-◌, ◌*◌, ◌<◌, ◌≤◌, Bool, true, false, cond, eqb, Ok, Err, Result, refl, arith}
 use Rattle.std.proofs.lemmas.Nat.{mul-le, div-mul-add, mod-mul-add}
-use Rattle.std.proofs.lemmas.Bool.Decides.{nat_tests}
+use Rattle.std.proofs.lemmas.Bool.Decides.{nat_tests, when_true, when_false}
 use Rattle.std.specs.Bool.{MatchBool}
-use Rattle.window.specs.Limits.{within, Within, WithinExactly}
+use Rattle.window.specs.Limits.{within, Within, MadeExactly}
 use Rattle.window.specs.declared.area.Area.{Area}
 use Rattle.window.specs.declared.window.Window.{Window}
-use Rattle.window.specs.Places.{area_of, place, reach}
+use Rattle.window.specs.Places.{area_of, window_at, place, reach}
 use Rattle.window.specs.Geometry.{begins, InRowOrder, Repeats, PixelByte, BytePast, LeastSize}
 use Rattle.window.proofs.Limits.{limits_of}
 
@@ -47,6 +47,10 @@ reach_least w b some =
     let l = limits_of w in
     record { holds = byte_inside (area_of w) l.width_some l.height_some b; least = λ s h. byte_past (area_of w) l.width_some l.height_some b s some h }
 
+-- the test passes exactly where the numbers are within the limits
+abbrev pub WithinExactly : ℕ → Area → Type 0
+WithinExactly limit a = MatchBool (within limit a) (Within limit a) (Within limit a → ⊥)
+
 pub within_exactly : (limit : ℕ) (a : Area) → WithinExactly limit a
 within_exactly limit a = by (within limit a) refl
   where
@@ -60,3 +64,10 @@ within_exactly limit a = by (within limit a) refl
       columns = grind (arith, nat_tests);
     }
     by false e = λ w. grind (arith, nat_tests, w.image, w.width, w.height, w.left, w.top, w.columns)
+
+pub made_exactly : (limit : ℕ) (a : Area) (r : Result Area ℕ) → r ≡ window_at limit a → MadeExactly limit a r
+made_exactly limit a r e = rw e (by (within limit a) refl)
+  where
+    by : (b : Bool) → within limit a ≡ b → MadeExactly limit a (cond b (Ok a) (Err 7))
+    by true e = (refl, when_true (Within limit a) (Within limit a → ⊥) e (within_exactly limit a))
+    by false e = (refl, when_false (Within limit a) (Within limit a → ⊥) e (within_exactly limit a))

@@ -1,6 +1,5 @@
 -- The limits within which a window exists.
-use Rattle.std.specs.Prelude.{ℕ, ◌+◌, ◌≤◌, min, Bool, ◌&&◌, nat_le}
-use Rattle.std.specs.Bool.{MatchBool}
+use Rattle.std.specs.Prelude.{◌≡◌, ℕ, ◌+◌, ◌≤◌, min, Bool, ◌&&◌, nat_le, Ok, Err, Result}
 use Rattle.window.specs.declared.area.Area.{Area}
 
 -- a number from 1 to the limit; a limit above 8,191 counts as 8,191
@@ -21,6 +20,7 @@ pub record Within (limit : ℕ) (a : Area) : Type 0 where
   pub top : a.top ≤ 8191
   pub columns : a.left + a.width ≤ a.image
 
--- the test passes exactly where they are
-abbrev pub WithinExactly : ℕ → Area → Type 0
-WithinExactly limit a = MatchBool (within limit a) (Within limit a) (Within limit a → ⊥)
+-- a window that is made is the one that was asked for, and its numbers are within the limits; where they are not, 7 is answered
+abbrev pub MadeExactly : ℕ → Area → Result Area ℕ → Type 0
+MadeExactly limit a (Ok b) = (b ≡ a) × Within limit a
+MadeExactly limit a (Err n) = (n ≡ 7) × (Within limit a → ⊥)

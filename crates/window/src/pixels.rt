@@ -1,8 +1,8 @@
 // What a window holds, and where.
 ghost use Rattle.std.specs.Prelude.{◌≡◌, ℕ, ◌+◌, ◌*◌, ◌^◌, ◌<◌, ◌≤◌};
-ghost use Rattle.window.specs.Limits.{side, within, WithinExactly};
+ghost use Rattle.window.specs.Limits.{side, within, MadeExactly};
 ghost use Rattle.window.specs.Places.{area_of, window_at, shown, pixels, place, cell, reach};
-ghost use Rattle.window.specs.Values.{value_at, stored};
+ghost use Rattle.window.specs.Values.{value_at, stored, LowByteFirst, ReplacedInside};
 ghost use Rattle.window.specs.Geometry.{InRowOrder, Repeats, PixelByte, LeastSize};
 
 use crate::area::Area;
@@ -33,10 +33,10 @@ fn is_within(limit: u16, area: Area) -> bool
 
 impl Window {
     // A window, or a refusal where a number lies outside the limits.
-    #[tactic(auto, using(crate::proofs::Geometry::within_exactly))]
+    #[tactic(auto, using(crate::proofs::Geometry::made_exactly))]
     pub fn new(limit: u16, area: Area) -> Result<Window, Refusal>
         ensures is { shown result ≡ window_at limit area }
-        ensures exactly { WithinExactly limit area }
+        ensures exactly { MadeExactly limit area (shown result) }
     {
         if !is_within(limit, area) {
             return Err(Refusal::OutsideWindowLimits);
@@ -44,6 +44,7 @@ impl Window {
         Ok(Window { area })
     }
 
+    /// How many columns the window has.
     pub fn width(&self) -> u16
         ensures { result ≡ (area_of self.now).width }
     {
@@ -103,11 +104,10 @@ impl Window {
         self.area.start as u64 + pixels * bytes_per_pixel as u64
     }
 
-    // The value of pixel k.
-    #[tactic(auto, using(crate::proofs::Values::value_of_bytes, crate::proofs::Geometry::in_row_order))]
-    pub fn load<M: Memory>(&self, size: PixelSize, memory: &M, k: u32) -> u32
-        ensures order { InRowOrder (area_of self.now) size.bytes }
-        ensures is { result ≡ value_at (M.bytes memory.now) (place (area_of self.now) size.bytes k) size.bytes }
+    // The number that the bytes of pixel k hold.
+    #[tactic(auto, using(crate::proofs::Values::value_of_bytes))]
+    fn value<M: Memory>(&self, size: PixelSize, memory: &M, k: u32) -> u32
+        ensures { result ≡ value_at (M.bytes memory.now) (place (area_of self.now) size.bytes k) size.bytes }
     {
         let from = self.address(size, k);
         let mut bytes = [0; 4];
@@ -117,9 +117,20 @@ impl Window {
         u32::from_le_bytes(bytes)
     }
 
-    // Stores a value as pixel k.
+    /// The value of pixel `k`, of `size` bytes, low byte first. A byte past memory counts as 0.
+    #[tactic(auto, using(crate::proofs::Geometry::in_row_order))]
+    pub fn load<M: Memory>(&self, size: PixelSize, memory: &M, k: u32) -> u32
+        ensures order { InRowOrder (area_of self.now) size.bytes }
+        ensures is { result ≡ value_at (M.bytes memory.now) (place (area_of self.now) size.bytes k) size.bytes }
+        ensures low_first { LowByteFirst (M.bytes memory.now) (place (area_of self.now) size.bytes k)
+            size.bytes result }
+    {
+        self.value(size, memory, k)
+    }
+
+    // Puts the bytes of a number as pixel k.
     #[tactic(auto, using(crate::proofs::Values::stored_again), unfolding(crate::specs::Values::stored))]
-    pub fn store<M: Memory>(&self, size: PixelSize, memory: &mut M, k: u32, value: u32)
+    fn put<M: Memory>(&self, size: PixelSize, memory: &mut M, k: u32, value: u32)
         ensures { M.bytes memory.new ≡ stored (M.bytes memory.old) (place (area_of self.now) size.bytes k) size.bytes value }
     {
         let to = self.address(size, k);
@@ -127,6 +138,16 @@ impl Window {
         for (i, byte) in bytes[..size.bytes as usize].iter().enumerate() {
             put_byte(memory, to + i as u64, *byte);
         }
+    }
+
+    /// Stores `value` as pixel `k`, in `size` bytes, low byte first. A byte past memory changes nothing.
+    pub fn store<M: Memory>(&self, size: PixelSize, memory: &mut M, k: u32, value: u32)
+        ensures is { M.bytes memory.new
+            ≡ stored (M.bytes memory.old) (place (area_of self.now) size.bytes k) size.bytes value }
+        ensures replaces { ReplacedInside (place (area_of self.now) size.bytes k) size.bytes value
+            (M.bytes memory.old) (M.bytes memory.new) }
+    {
+        self.put(size, memory, k, value);
     }
 }
 

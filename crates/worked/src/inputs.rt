@@ -2,7 +2,7 @@
 use colour::Colour;
 use source::Unit;
 
-// Two channels, and the level at which they are blended.
+/// Two channels, and the level at which they are blended.
 #[derive(Clone, Copy)]
 pub struct Blending {
     pub level: u8,
@@ -10,7 +10,7 @@ pub struct Blending {
     pub second: u8,
 }
 
-// A row of one-bit pixels.
+/// A row of one-bit pixels.
 #[derive(Clone, Copy)]
 pub struct BitRow {
     pub unit: Unit,

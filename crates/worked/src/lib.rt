@@ -21,7 +21,7 @@ fn units(row: BitRow) -> u32
     BitRows::new(row.unit, row.start_bit, row.columns).map_or(0, |rows| rows.units())
 }
 
-// What the examples are worked on in the data sheet.
+/// What the examples are worked on in the data sheet.
 pub fn sheet_inputs() -> Inputs
     ensures { result ≡ sheet_inputs }
 {
@@ -64,7 +64,8 @@ pub fn sheet_inputs() -> Inputs
     }
 }
 
-// Whatever the inputs, each answer is what its definition says; and of the inputs of the data sheet the definitions say its numbers.
+/// Works the examples out. Whatever the inputs, each answer is what its definition says; at the inputs of the data sheet the
+/// definitions give its numbers.
 #[tactic(auto, unfolding(pixel::specs::Rasters::raster_bits, pixel::specs::Blends::blend_channel))]
 pub fn worked_examples(inputs: Inputs) -> Worked
     ensures each { result ≡ examples inputs }

@@ -1,6 +1,6 @@
 use Rattle.std.proofs.Common.{rules, refl}
 use Rattle.engine.specs.Fed.{stage}
-use Rattle.engine.proofs.Drawn.{parts, wholes, in_all, fed_so}
+use Rattle.engine.proofs.Drawn.{parts, wholes, in_all, fed_so, never_inside}
 use Rattle.engine.proofs.drawing.Drawing.feed.Goals as goal
 
 pub returns-then-not-lies_inside : goal.returns-then-not-lies_inside
@@ -9,6 +9,7 @@ returns-then-not-lies_inside g c =
     record {
       answer = search rules;
       after = search rules;
+      counts = (refl, never_inside g.R.PixelRule.yields g.D.Readable.format g.D.Canvas.narrowed a.self.now a.palette.now (g.M.Memory.bytes a.memory.now) c.size.result c.size.ensures c.if-not-lies_inside.ensures.is);
       only = refl;
       parts = parts g.R.PixelRule.yields g.D.Readable.format g.D.Canvas.narrowed a.self.now a.palette.now;
       wholes = wholes g.R.PixelRule.yields g.D.Readable.format g.D.Canvas.narrowed a.self.now a.palette.now;
@@ -27,6 +28,7 @@ returns g c =
     record {
       answer = fed.answer;
       after = fed.after;
+      counts = fed.counts;
       only = fed.only;
       parts = parts g.R.PixelRule.yields g.D.Readable.format g.D.Canvas.narrowed a.self.now a.palette.now;
       wholes = wholes g.R.PixelRule.yields g.D.Readable.format g.D.Canvas.narrowed a.self.now a.palette.now;

@@ -1,5 +1,4 @@
-use Rattle.std.proofs.Common.{◌≡◌, ◌-◌, ◌≤◌, sym, arith}
-use Rattle.engine.specs.Painted.{op_of, plotted, painted}
+use Rattle.std.proofs.Common.{◌≡◌, ◌-◌, sym, arith}
 use Rattle.engine.proofs.drawing.Drawing.paint.Goals as goal
 
 pub returns-clause-after : goal.returns-clause-after

@@ -1,4 +1,4 @@
-use Rattle.std.proofs.Common.{◌-◌, refl, arith}
+use Rattle.std.proofs.Common.{refl, arith}
 use Rattle.feeding.proofs.Feeding.{one_more, all_come, ended}
 use Rattle.engine.specs.Painted.{op_of}
 use Rattle.engine.specs.Fed.{stage, takes_at, byte_come}

@@ -3,7 +3,7 @@ use Rattle.refusal.specs.Numbers.{numbered}
 use Rattle.rules.proofs.Meanings.{rule_means}
 use Rattle.job.specs.States.{work_of}
 use Rattle.job.specs.Works.{awaits, at_stage, feed_answer, feed_after, FedOnly, FeedTakes, FeedGoesOn}
-use Rattle.job.proofs.Under.{feed_answer_is, feed_after_is}
+use Rattle.job.proofs.Under.{feed_answer_is, feed_after_is, feeds_awaited}
 use Rattle.job.proofs.job.Begun.feed.Goals as goal
 
 pub returns : goal.returns
@@ -28,6 +28,7 @@ returns g c =
       answer = all.0;
       memory = all.1;
       job = all.2;
+      allowed = feeds_awaited c.args.self.now m p xs r after all.0 all.2;
       only = all.3;
       rule = rule_means c.args.self.now.plan.rule;
       rest = all.4;

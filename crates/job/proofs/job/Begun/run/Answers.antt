@@ -2,7 +2,7 @@ use Rattle.std.proofs.Common.{◌≡◌, ◌+◌, true, ◌≤◌, length, Ok, s
 use Rattle.rules.proofs.Meanings.{rule_means}
 use Rattle.job.specs.States.{work_of}
 use Rattle.job.specs.Works.{runs, at_stage, run_answer, run_after, Ran, RunGoesOn}
-use Rattle.job.proofs.Under.{never_declined, run_answer_is, run_after_is, run_memory_is, further_is, further_keeps, further_story}
+use Rattle.job.proofs.Under.{never_declined, run_answer_is, run_after_is, run_memory_is, runs_allowed, further_is, further_keeps, further_story}
 use Rattle.job.proofs.job.Begun.run.Goals as goal
 
 pub returns-in_err-count : goal.returns-in_err-count
@@ -44,6 +44,7 @@ returns g c =
       answer = all.0;
       memory = all.1;
       job = all.2;
+      allowed = runs_allowed c.args.self.now m p k (Ok count) after all.0 all.2;
       pixels = all.3;
       rule = rule_means c.args.self.now.plan.rule;
       history = all.4;

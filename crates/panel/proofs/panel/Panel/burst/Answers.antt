@@ -15,7 +15,7 @@ returns-then-not-awaits-clause-history g c =
     let counts = c.in_ok-counts-in-Awaiting.counts in
     let e = c.in_ok-counts-in-Awaiting.ensures in
     subst (λ d. BurstGoesOn s d xs (Ok counts) t) (sym c.in-Awaiting.is)
-    (burst_on s t w c.feed.new.self (feed_after w s.palette s.memory xs) e.job false xs counts e.answer c.if-not-awaits.ensures.answer refl e.history)
+    (burst_on s t w c.feed.new.self (feed_after w s.palette s.memory xs) e.job false xs counts e.answer c.if-not-awaits.ensures.answer refl e.allowed e.rest e.history)
 
 pub returns-else-not-awaits-clause-history : goal.returns-else-not-awaits-clause-history
 returns-else-not-awaits-clause-history g c =
@@ -26,4 +26,4 @@ returns-else-not-awaits-clause-history g c =
     let counts = c.in_ok-counts-in-Awaiting.counts in
     let e = c.in_ok-counts-in-Awaiting.ensures in
     subst (λ d. BurstGoesOn s d xs (Ok counts) t) (sym c.in-Awaiting.is)
-    (burst_on s t w c.feed.new.self (feed_after w s.palette s.memory xs) e.job true xs counts e.answer c.if-not-awaits.ensures.answer refl e.history)
+    (burst_on s t w c.feed.new.self (feed_after w s.palette s.memory xs) e.job true xs counts e.answer c.if-not-awaits.ensures.answer refl e.allowed e.rest e.history)

@@ -14,8 +14,8 @@ returns-then-not-runs-clause-history g c =
     let n = c.args.pixels in
     let count = c.in_ok-count.count in
     let e = c.in_ok-count.ensures in
-    subst (λ d. RunGoesOn s d (Ok count) t) (sym c.in-Drawing.is)
-    (run_on s t w c.run.new.self (run_after w s.palette s.memory n) e.job false n count e.answer c.if-not-runs.ensures.answer refl e.history)
+    subst (λ d. RunGoesOn s d n (Ok count) t) (sym c.in-Drawing.is)
+    (run_on s t w c.run.new.self (run_after w s.palette s.memory n) e.job false n count e.answer c.if-not-runs.ensures.answer refl e.allowed e.history)
 
 pub returns-else-not-runs-clause-history : goal.returns-else-not-runs-clause-history
 returns-else-not-runs-clause-history g c =
@@ -25,5 +25,5 @@ returns-else-not-runs-clause-history g c =
     let n = c.args.pixels in
     let count = c.in_ok-count.count in
     let e = c.in_ok-count.ensures in
-    subst (λ d. RunGoesOn s d (Ok count) t) (sym c.in-Drawing.is)
-    (run_on s t w c.run.new.self (run_after w s.palette s.memory n) e.job true n count e.answer c.if-not-runs.ensures.answer refl e.history)
+    subst (λ d. RunGoesOn s d n (Ok count) t) (sym c.in-Drawing.is)
+    (run_on s t w c.run.new.self (run_after w s.palette s.memory n) e.job true n count e.answer c.if-not-runs.ensures.answer refl e.allowed e.history)

@@ -1,6 +1,6 @@
 use Rattle.std.proofs.Common.{◌≡◌, ◌+◌, ◌-◌, ◌/◌, ◌^◌}
 use Rattle.window.specs.Values.{stored}
-use Rattle.window.proofs.window.Window.store.Given as goal
+use Rattle.window.proofs.window.Window.put.Given as goal
 
 abbrev pub invariant-loop-i : goal.invariant-loop-i
 invariant-loop-i g l =
