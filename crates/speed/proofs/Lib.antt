@@ -1,0 +1,4 @@
+pub mod Feeding
+pub mod Clearing
+pub mod Writing
+pub mod Sending

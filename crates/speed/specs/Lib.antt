@@ -1,0 +1,4 @@
+pub mod Settings
+pub mod Answers
+pub mod Jobs
+pub mod Panels
