@@ -22,7 +22,7 @@ pub record Narrows (f : Format) (narrow : Colour → ℕ) : Type 0 where
   pub fits : (c : Colour) → Channels c → narrow c < 2 ^ (8 * f.width)
   -- a widened value narrows to itself
   pub back : (p : Palette) (v : ℕ) → v < 2 ^ (8 * f.width) → narrow (f.colour p v) ≡ v
-  -- the complement of a colour narrows to the complement of its value, in all bits of a pixel
+  -- turning over all bits of a colour turns over all bits of its pixel
   pub complements : (c : Colour) → Channels c → narrow (complement c) ≡ 2 ^ (8 * f.width) - 1 - narrow c
-  -- the bitwise and of two colours narrows to the bitwise and of their values
+  -- narrowing goes through a bitwise and, of two colours as of their values
   pub ands : (c d : Colour) → Channels c → Channels d → narrow (both c d) ≡ bit_and (narrow c) (narrow d)

@@ -85,7 +85,7 @@ feed_answer w p m xs =
 abbrev pub feed_after : Work → Palette → List ℕ → List ℕ → Stage
 feed_after w p m xs = cond (serves w m && awaits w) (fed_stage w p m xs) (stage_of w m)
 
--- a run draws the lesser of n and what is left
+-- a run draws n pixels, or all that are left where these are fewer
 abbrev pub run_stage : Work → Palette → List ℕ → ℕ → Stage
 run_stage w p m n = record {
   memory = painted (plotted (op_at w.plan) p 0) w.drawn (min n (left w)) m;

@@ -1,4 +1,4 @@
-// An operation from its settings to its last pixel: drafted, cleared against a memory, begun, fed or run, and closed.
+// An operation from its settings to its last pixel, by the four states of a job: draft, cleared, begun and closed.
 #![tactic(auto)]
 
 mod clear;

@@ -9,7 +9,7 @@ use super::pending::{Entry, Pending};
 use memory::Memory;
 use refusal::Refusal;
 
-// The memory below with the waiting bytes laid over it. Not `Drop`, so no waiting byte can be lost: it ends by `into_below`. No
+// What it shows is the memory below, but at each address that waits the byte that waits there. Not `Drop`, so no waiting byte can be lost: it ends by `into_below`. No
 // model: `new` says that it holds the memory itself.
 pub struct WriteQueue<M> {
     below: M,

@@ -44,8 +44,8 @@ abbrev pub totals : List Reply → List Total
 totals [] = []
 totals (r ∷ rs) = add (total r) (totals rs)
 
--- two replays agree: every other call got the same answer, each group has the same totals, and memory, registers,
--- palette, what is under way and the bytes waiting are equal
+-- two replays agree: every other call got the same answer, each group has the same totals, and both end
+-- in one state: memory, registers, palette, and what is under way with the bytes that wait
 pub record Agree (rs qs : List Reply) (s t : State) : Type 0 where
   pub answers : totals rs ≡ totals qs
   pub state : s ≡ t

@@ -28,7 +28,7 @@ fn from_host_565(rt: HostRuntime) -> Result<(), Fail> {
     )
 }
 
-// Bytes 1 2 3 4, three pixels copied from left 0 to left 1, each reading what was drawn before it: 1 1 1 1.
+// Over the bytes 1 2 3 4 a copy of three pixels moves one to the right, each reading what was drawn before it: 1 1 1 1.
 #[test]
 fn from_memory_over_itself(rt: HostRuntime) -> Result<(), Fail> {
     check_script(

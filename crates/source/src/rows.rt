@@ -9,7 +9,7 @@ pub enum Unit {
     Sixteen = 16,
 }
 
-// Each row begins in a unit of its own at the start bit, going down, and goes on at the top bit of each further unit.
+// No unit holds bits of two rows. A row goes down from the start bit of its first unit, and from the top bit of every other.
 // Ghost fields and no model: where a value with a model stands inside an enum, as it would in `Source`, another crate that keeps
 // a drawing over a branch gets no proof.
 #[derive(Clone, Copy)]
