@@ -1,11 +1,11 @@
 -- Where the cell of an address lies, and what a read and a put make of what cells show.
-use Rattle.std.proofs.Common.{◌≡◌, ℕ, ◌*◌, ◌/◌, ◌<◌, ◌≤◌, min, List, map, length, get_or, set, sym, ◌∙◌, ⊎_elim, arith}
+use Rattle.std.proofs.Common.{◌≡◌, ℕ, ◌+◌, ◌*◌, ◌/◌, ◌<◌, ◌≤◌, ◌⊎◌, min, List, map, length, get_or, set, sym, ◌∙◌, ⊎_elim, arith}
 use Rattle.std.proofs.Math.Nat.{mul-le-mul_left, le_of_lt}
 use Rattle.std.proofs.lemmas.Bool.{cases_eq, cases_lt}
 use Rattle.std.proofs.lemmas.Nat.{div_below}
 use Rattle.std.proofs.lemmas.List.{length-map, map-set, length-set, get_or-map, get_or-set_same, get_or-set_other}
 use Rattle.memory.specs.View.{view_put, view_length, view_at}
-use Rattle.memory.specs.Cells.{CellLaws, in_cells, of_cells}
+use Rattle.memory.specs.Cells.{CellLaws, in_cells, of_cells, cells_sound}
 
 module _ {C : Type 0} {n : ℕ} {byte : C → ℕ → ℕ} {with_byte : C → ℕ → ℕ → C} (laws : CellLaws n byte with_byte) (cs : List C) where
   cells_length : length (of_cells n byte cs) ≡ min 16777216 (n * length cs)
@@ -26,6 +26,21 @@ module _ {C : Type 0} {n : ℕ} {byte : C → ℕ → ℕ} {with_byte : C → �
       let least : min (length cs) (16777216 / n) ≡ 16777216 / n = omega arith in
       rw least (omega arith))
       (cases_lt (length cs) (16777216 / n))
+
+  -- where an address lies in memory, and where it does not
+  pub cells_in : (a : ℕ) → a < 16777216 → a / n < length cs → a < length (of_cells n byte cs)
+  cells_in a most h =
+      let some = laws.some in
+      let fits : n * (a / n + 1) ≤ n * length cs = mul-le-mul_left n (omega arith) in
+      omega (arith, cells_length)
+
+  pub cells_past : (a : ℕ) → (16777216 ≤ a) ⊎ (length cs ≤ a / n) → length (of_cells n byte cs) ≤ a
+  cells_past a h =
+      let some = laws.some in
+      ⊎_elim
+      (λ most. omega (arith, cells_length))
+      (λ past. let all : n * length cs ≤ n * (a / n) = mul-le-mul_left n past in omega (arith, cells_length))
+      h
 
   pub cell_within : (a : ℕ) → a < length (of_cells n byte cs) → a / n < length cs
   cell_within a h =
@@ -61,3 +76,6 @@ module _ {C : Type 0} {n : ℕ} {byte : C → ℕ → ℕ} {with_byte : C → �
       (λ e. rw e (same k ∙ laws.there c a v k fits e ne ∙ sym (get_or-map (λ x. byte x k) cs i d 0 (cell_within a h))))
       (λ apart. rw (map-set (λ x. byte x k) cs i new) (get_or-set_other (map (λ x. byte x k) cs) i (k / n) (byte new k) 0 apart))
       (cases_eq (k / n) i)))
+
+pub cells_few : {C : Type 0} (n : ℕ) (byte : C → ℕ → ℕ) (cs : List C) → length (of_cells n byte cs) ≤ 16777216
+cells_few n byte cs = (cells_sound n byte cs).short

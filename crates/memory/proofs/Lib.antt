@@ -1,3 +1,10 @@
 pub mod Access
 pub mod Cells
 pub mod Boards
+pub mod Spans
+pub mod Pastes
+pub mod Repeats
+pub mod WordSpans
+pub mod SpanBytes
+pub mod Pieces
+pub mod Fills

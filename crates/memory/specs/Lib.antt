@@ -2,3 +2,4 @@ pub mod Bytes
 pub mod View
 pub mod Cells
 pub mod Boards
+pub mod Spans
