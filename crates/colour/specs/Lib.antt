@@ -4,3 +4,4 @@ pub mod Channels
 pub mod Entries
 pub mod Formats
 pub mod Places
+pub mod Unpacks

@@ -14,6 +14,7 @@ pub enum FieldWidth {
 }
 
 impl FieldWidth {
+    #[inline(always)]
     pub fn bits(self) -> u8
         ensures { result ≡ bits_of self }
     {
@@ -21,6 +22,7 @@ impl FieldWidth {
     }
 
     // The channel that the lowest bits of `field` widen to.
+    #[inline(always)]
     #[tactic(auto, using(crate::proofs::FieldBits::widened_repeats))]
     pub fn widen(self, field: u8) -> u8
         ensures widens { result ≡ widened (bits_of self) (field % 2 ^ bits_of self) }
@@ -38,6 +40,7 @@ impl FieldWidth {
     }
 
     // The field that a channel narrows to.
+    #[inline(always)]
     #[tactic(auto, using(crate::proofs::FieldBits::narrowed_top))]
     pub fn narrow(self, channel: u8) -> u8
         ensures narrows { result ≡ narrowed (bits_of self) channel }

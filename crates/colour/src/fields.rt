@@ -18,6 +18,7 @@ impl Fields {
     ghost use Rattle.colour.specs.Places.{FieldsWiden, FieldsShow, FieldsHold};
 
     // The channels that the fields of a value widen to.
+    #[inline(always)]
     pub fn unpack(self, value: u32) -> (u8, u8, u8)
         ensures unpacks { result ≡ unpacked (bits_of self.high) (bits_of self.middle) (bits_of self.low) value }
         ensures fields { FieldsWiden self value result }
@@ -32,6 +33,7 @@ impl Fields {
     }
 
     // The value whose fields are what the channels narrow to.
+    #[inline(always)]
     pub fn pack(self, high: u8, middle: u8, low: u8) -> u32
         ensures { result ≡ packed (bits_of self.high) (bits_of self.middle) (bits_of self.low) high middle low }
     {
@@ -43,6 +45,7 @@ impl Fields {
     }
 
     // The colour whose red, green and blue stand in the fields of a value, red in the highest.
+    #[inline(always)]
     pub fn colour(self, value: u32) -> Colour
         ensures unpacks { result ≡ unpacked_colour (bits_of self.high) (bits_of self.middle) (bits_of self.low) value }
         ensures fields { FieldsShow self value result }
@@ -52,6 +55,7 @@ impl Fields {
     }
 
     // The value in whose fields the red, green and blue of a colour stand, red in the highest.
+    #[inline(always)]
     pub fn narrow(self, colour: Colour) -> u32
         ensures packs { result ≡ packed (bits_of self.high) (bits_of self.middle) (bits_of self.low) colour.red colour.green colour.blue }
         ensures fields { FieldsHold self colour result }

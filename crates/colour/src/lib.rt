@@ -1,11 +1,12 @@
 // Colours, the palette, and what a pixel format has to be.
 #![tactic(auto)]
 
-ghost use Rattle.std.specs.Prelude.{◌≡◌, ℕ, ◌+◌, ◌-◌, ◌*◌, ◌/◌, ◌%◌, ◌^◌, ◌<◌, ◌≤◌, set, replicate};
+ghost use Rattle.std.specs.Prelude.{◌≡◌, ℕ, ◌+◌, ◌-◌, ◌*◌, ◌/◌, ◌%◌, ◌^◌, ◌<◌, ◌≤◌, set, replicate, IfSome};
 ghost use Rattle.colour.specs.declared.Colour.{Colour};
 ghost use Rattle.colour.specs.Entries.{entry_of_bytes, LoadsFields, entry_colour, entry_at, palette_colour};
 ghost use Rattle.colour.specs.Packing.{ShowsFields};
 ghost use Rattle.colour.specs.Formats.{Format, Narrows};
+ghost use Rattle.colour.specs.Unpacks.{Unpacks, Packs};
 
 mod field;
 mod fields;
@@ -41,6 +42,7 @@ const ENTRY_FIELDS: Fields = Fields {
 };
 
 // No `From<u16>`: an entry is twelve bits of a number.
+#[inline(always)]
 pub fn colour_of_entry(entry: u16) -> Colour
     ensures is { result ≡ entry_colour entry }
     ensures fields { ShowsFields 4 4 4 entry result }
@@ -55,6 +57,7 @@ impl Palette {
         Palette { entries: [0; 64] }
     }
 
+    #[inline(always)]
     pub fn entry(&self, k: u8) -> u16
         ensures { result ≡ entry_at self.now k }
     {
@@ -68,6 +71,7 @@ impl Palette {
         self.entries[place] = entry_of_bytes(low, high);
     }
 
+    #[inline(always)]
     pub fn colour(&self, k: u8) -> Colour
         ensures is { result ≡ palette_colour self.now k }
         ensures fields { ShowsFields 4 4 4 (entry_at self.now k) result }
@@ -85,6 +89,13 @@ pub trait Readable {
 
     fn colour(&self, palette: &Palette, value: u32) -> Colour
         ensures { result ≡ (format self.now).colour palette.now value };
+
+    /// The fields that its values are made of, red in the highest, where the format is known to be three fields.
+    fn fields(&self) -> Option<Fields>
+        ensures { IfSome result (Unpacks (format self.now)) }
+    {
+        None
+    }
 }
 
 // A format that can be drawn in: each colour narrows to a value.
@@ -93,6 +104,14 @@ pub trait Canvas: Readable {
 
     fn narrow(&self, colour: Colour) -> u32
         ensures { result ≡ narrowed self.now colour };
+
+    /// The fields that its values are made of both ways, where they are known: a colour also narrows to the value that packs its channels.
+    fn packed_fields(&self) -> Option<Fields>
+        ensures shows { IfSome result (Unpacks (Self.Readable.format self.now)) }
+        ensures packs { IfSome result (Packs (narrowed self.now)) }
+    {
+        None
+    }
 
     ghost keeps: { (f : Self) → Narrows (Self.Readable.format f) (narrowed f) };
 }

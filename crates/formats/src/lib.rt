@@ -30,6 +30,7 @@ impl Rgb332 {
 impl Readable for Rgb332 {
     ghost format = { λ _. format332 };
 
+    #[inline(always)]
     fn bytes_per_pixel(&self) -> u8
         ensures is { result ≡ format332.width }
         ensures filled { 8 * result ≡ 3 + 3 + 2 }
@@ -37,11 +38,17 @@ impl Readable for Rgb332 {
         1
     }
 
+    #[inline(always)]
     fn colour(&self, _palette: &Palette, value: u32) -> Colour
         ensures is { result ≡ colour332 value }
         ensures fields { ShowsFields 3 3 2 value result }
     {
         row(&COLOURS, value)
+    }
+
+    #[inline(always)]
+    fn fields(&self) -> Option<Fields> {
+        Some(Rgb332::FIELDS)
     }
 }
 
@@ -50,11 +57,17 @@ impl Canvas for Rgb332 {
 
     ghost keeps = { λ _. narrows332 };
 
+    #[inline(always)]
     fn narrow(&self, colour: Colour) -> u32
         ensures is { result ≡ narrow332 colour }
         ensures fields { HoldsFields 3 3 2 colour result }
     {
         Rgb332::FIELDS.narrow(colour)
+    }
+
+    #[inline(always)]
+    fn packed_fields(&self) -> Option<Fields> {
+        Some(Rgb332::FIELDS)
     }
 }
 
@@ -72,6 +85,7 @@ impl Rgb565 {
 impl Readable for Rgb565 {
     ghost format = { λ _. format565 };
 
+    #[inline(always)]
     fn bytes_per_pixel(&self) -> u8
         ensures is { result ≡ format565.width }
         ensures filled { 8 * result ≡ 5 + 6 + 5 }
@@ -79,11 +93,17 @@ impl Readable for Rgb565 {
         2
     }
 
+    #[inline(always)]
     fn colour(&self, _palette: &Palette, value: u32) -> Colour
         ensures is { result ≡ colour565 value }
         ensures fields { ShowsFields 5 6 5 value result }
     {
         Rgb565::FIELDS.colour(value)
+    }
+
+    #[inline(always)]
+    fn fields(&self) -> Option<Fields> {
+        Some(Rgb565::FIELDS)
     }
 }
 
@@ -92,11 +112,17 @@ impl Canvas for Rgb565 {
 
     ghost keeps = { λ _. narrows565 };
 
+    #[inline(always)]
     fn narrow(&self, colour: Colour) -> u32
         ensures is { result ≡ narrow565 colour }
         ensures fields { HoldsFields 5 6 5 colour result }
     {
         Rgb565::FIELDS.narrow(colour)
+    }
+
+    #[inline(always)]
+    fn packed_fields(&self) -> Option<Fields> {
+        Some(Rgb565::FIELDS)
     }
 }
 
@@ -114,6 +140,7 @@ impl Rgb888 {
 impl Readable for Rgb888 {
     ghost format = { λ _. format888 };
 
+    #[inline(always)]
     fn bytes_per_pixel(&self) -> u8
         ensures is { result ≡ format888.width }
         ensures filled { 8 * result ≡ 8 + 8 + 8 }
@@ -121,11 +148,17 @@ impl Readable for Rgb888 {
         3
     }
 
+    #[inline(always)]
     fn colour(&self, _palette: &Palette, value: u32) -> Colour
         ensures is { result ≡ colour888 value }
         ensures fields { ShowsFields 8 8 8 value result }
     {
         Rgb888::FIELDS.colour(value)
+    }
+
+    #[inline(always)]
+    fn fields(&self) -> Option<Fields> {
+        Some(Rgb888::FIELDS)
     }
 }
 
@@ -134,11 +167,17 @@ impl Canvas for Rgb888 {
 
     ghost keeps = { λ _. narrows888 };
 
+    #[inline(always)]
     fn narrow(&self, colour: Colour) -> u32
         ensures is { result ≡ narrow888 colour }
         ensures fields { HoldsFields 8 8 8 colour result }
     {
         Rgb888::FIELDS.narrow(colour)
+    }
+
+    #[inline(always)]
+    fn packed_fields(&self) -> Option<Fields> {
+        Some(Rgb888::FIELDS)
     }
 }
 
@@ -154,6 +193,7 @@ pub enum Depth {
 impl Readable for Depth {
     ghost format = { depth_format };
 
+    #[inline(always)]
     fn bytes_per_pixel(&self) -> u8
         ensures is { result ≡ (depth_format self.now).width }
         ensures filled { 8 * result ≡ depth_bits self.now }
@@ -165,6 +205,7 @@ impl Readable for Depth {
         }
     }
 
+    #[inline(always)]
     #[tactic(auto, using(crate::proofs::Shown::shows_332, crate::proofs::Shown::shows_565, crate::proofs::Shown::shows_888))]
     fn colour(&self, palette: &Palette, value: u32) -> Colour
         ensures is { result ≡ (depth_format self.now).colour palette.now value }
@@ -176,6 +217,15 @@ impl Readable for Depth {
             Depth::Rgb888 => Rgb888.colour(palette, value),
         }
     }
+
+    #[inline(always)]
+    fn fields(&self) -> Option<Fields> {
+        match self {
+            Depth::Rgb332 => Rgb332.fields(),
+            Depth::Rgb565 => Rgb565.fields(),
+            Depth::Rgb888 => Rgb888.fields(),
+        }
+    }
 }
 
 impl Canvas for Depth {
@@ -183,6 +233,7 @@ impl Canvas for Depth {
 
     ghost keeps = { depth_keeps };
 
+    #[inline(always)]
     #[tactic(auto, using(crate::proofs::Shown::depth_holds))]
     fn narrow(&self, colour: Colour) -> u32
         ensures is { result ≡ depth_narrow self.now colour }
@@ -192,6 +243,15 @@ impl Canvas for Depth {
             Depth::Rgb332 => Rgb332.narrow(colour),
             Depth::Rgb565 => Rgb565.narrow(colour),
             Depth::Rgb888 => Rgb888.narrow(colour),
+        }
+    }
+
+    #[inline(always)]
+    fn packed_fields(&self) -> Option<Fields> {
+        match self {
+            Depth::Rgb332 => Rgb332.packed_fields(),
+            Depth::Rgb565 => Rgb565.packed_fields(),
+            Depth::Rgb888 => Rgb888.packed_fields(),
         }
     }
 }

@@ -14,6 +14,7 @@ pub struct Index26;
 
 impl Index26 {
     // The palette entry that a pixel value chooses.
+    #[inline(always)]
     pub fn entry_number(&self, value: u32) -> u8
         ensures is { result ≡ index_entry value }
         ensures chooses { ChoosesEntry value result }
@@ -25,6 +26,7 @@ impl Index26 {
 impl Readable for Index26 {
     ghost format = { λ _. format26 };
 
+    #[inline(always)]
     fn bytes_per_pixel(&self) -> u8
         ensures is { result ≡ format26.width }
         ensures filled { 8 * result ≡ 2 + 6 }
@@ -32,6 +34,7 @@ impl Readable for Index26 {
         1
     }
 
+    #[inline(always)]
     fn colour(&self, palette: &Palette, value: u32) -> Colour
         ensures is { result ≡ format26.colour palette.now value }
         ensures shows { ShowsEntry palette.now value result }
@@ -45,6 +48,7 @@ impl Overlay for Index26 {
 
     ghost bounded = { λ _ v. index_bounded (v / 64 % 4) };
 
+    #[inline(always)]
     #[tactic(auto, using(crate::proofs::Shown::index_level_of_row))]
     fn level(&self, value: u32) -> u8
         ensures is { result ≡ level26 value }
@@ -61,6 +65,7 @@ pub struct Argb4444;
 impl Readable for Argb4444 {
     ghost format = { λ _. format4444 };
 
+    #[inline(always)]
     fn bytes_per_pixel(&self) -> u8
         ensures is { result ≡ format4444.width }
         ensures filled { 8 * result ≡ 4 + 4 + 4 + 4 }
@@ -68,6 +73,7 @@ impl Readable for Argb4444 {
         2
     }
 
+    #[inline(always)]
     fn colour(&self, _palette: &Palette, value: u32) -> Colour
         ensures is { result ≡ format4444.colour _palette.now value }
         ensures shows { ShowsArgb value result }
@@ -81,6 +87,7 @@ impl Overlay for Argb4444 {
 
     ghost bounded = { λ _. bounded4444 };
 
+    #[inline(always)]
     fn level(&self, value: u32) -> u8
         ensures is { result ≡ level4444 value }
         ensures has { HasArgbLevel value result }
@@ -100,6 +107,7 @@ pub enum OverlayKind {
 impl Readable for OverlayKind {
     ghost format = { overlay_format };
 
+    #[inline(always)]
     fn bytes_per_pixel(&self) -> u8
         ensures is { result ≡ (overlay_format self.now).width }
         ensures filled { 8 * result ≡ overlay_bits self.now }
@@ -110,6 +118,7 @@ impl Readable for OverlayKind {
         }
     }
 
+    #[inline(always)]
     #[tactic(auto, using(crate::proofs::Shown::overlay_shows))]
     fn colour(&self, palette: &Palette, value: u32) -> Colour
         ensures is { result ≡ (overlay_format self.now).colour palette.now value }
@@ -127,6 +136,7 @@ impl Overlay for OverlayKind {
 
     ghost bounded = { overlay_bounded };
 
+    #[inline(always)]
     #[tactic(auto, using(crate::proofs::Shown::overlay_has_level))]
     fn level(&self, value: u32) -> u8
         ensures is { result ≡ overlay_level self.now value }

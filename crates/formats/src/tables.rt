@@ -4,6 +4,7 @@ ghost use Rattle.std.specs.Prelude.{◌≡◌, ℕ, ◌%◌, ◌<◌, slice_inde
 use colour::Colour;
 
 // The row that a value chooses, taken modulo the number of rows.
+#[inline(always)]
 pub(crate) fn row<T: Copy, const N: usize>(table: &[T; N], value: u32) -> T
     requires { 0 < N }
     ensures { (d : T) → result ≡ slice_index_or table.now (value % N) d }

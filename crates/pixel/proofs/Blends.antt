@@ -29,7 +29,7 @@ blend_between level x y =
     let high = weighted_high l x y (max x y) h (le-max_left x y) (le-max_right x y) in
     record { low = omega arith; high = omega arith }
 
-blend_lt : (level x y : ℕ) → x < 256 → y < 256 → blend_channel level x y < 256
+pub blend_lt : (level x y : ℕ) → x < 256 → y < 256 → blend_channel level x y < 256
 blend_lt level x y h k = let high = (blend_between level x y).high in omega arith
 
 -- a blend of two colours with channels of 8 bits has such channels too

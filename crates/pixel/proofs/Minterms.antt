@@ -36,7 +36,7 @@ abbrev pub joined : ℕ → ℕ → ℕ → ℕ → ℕ
 joined n rule x y =
     bit_or (bit_or (bit_or (rule / 8 % 2 * bit_and x y) (rule / 4 % 2 * bit_and x (turned n y))) (rule / 2 % 2 * bit_and (turned n x) y)) (rule % 2 * bit_and (turned n x) (turned n y))
 
-bits : (rule r s : ℕ) → r < 2 → s < 2
+pub bits : (rule r s : ℕ) → r < 2 → s < 2
     → max (max (max (min (rule / 8 % 2) (min r s)) (min (rule / 4 % 2) (min r (1 - s)))) (min (rule / 2 % 2) (min (1 - r) s))) (min (rule % 2) (min (1 - r) (1 - s))) ≡ chosen rule r s
 bits rule = two_bits _ (omega arith) (omega arith) (omega arith) (omega arith)
 

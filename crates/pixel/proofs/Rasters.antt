@@ -17,7 +17,7 @@ rastered_channels rule c d = record {
   blue = raster_lt 8 rule c.blue d.blue;
 }
 
-raster_six : (n x y : ℕ) → x < 2 ^ n → y < 2 ^ n → raster_bits n 6 x y ≡ bit_xor x y
+pub raster_six : (n x y : ℕ) → x < 2 ^ n → y < 2 ^ n → raster_bits n 6 x y ≡ bit_xor x y
 raster_six n x y h k =
     same_from_bits_below n _ _ (raster_lt n 6 x y) (xor_lt n x y h k)
     (λ i l. raster_bit n 6 x y i l ∙ two_bits (λ r s. chosen 6 r s ≡ (r + s) % 2) refl refl refl refl _ _ (bit_at-lt x i) (bit_at-lt y i) ∙ sym (bit_at_xor x y i))
@@ -26,3 +26,9 @@ raster_six n x y h k =
 pub rastered_six : (c d : Colour) → Channels c → Channels d → rastered 6 c d ≡ xored c d
 rastered_six c d h k =
     rw (raster_six 8 c.red d.red h.red k.red, raster_six 8 c.green d.green h.green k.green, raster_six 8 c.blue d.blue h.blue k.blue)
+
+-- rule 12 is the first source
+pub raster_twelve : (n x y : ℕ) → x < 2 ^ n → raster_bits n 12 x y ≡ x
+raster_twelve n x y h =
+    same_from_bits_below n _ _ (raster_lt n 12 x y) h
+    (λ i l. raster_bit n 12 x y i l ∙ two_bits (λ r s. chosen 12 r s ≡ r) refl refl refl refl _ _ (bit_at-lt x i) (bit_at-lt y i))

@@ -10,6 +10,7 @@ ghost use Rattle.pixel.specs.Each.{SomeEach};
 use colour::Colour;
 
 // The colour whose channels f makes of those of two colours, channel by channel.
+#[inline(always)]
 fn zip_channels<F: Fn(u8, u8) -> u8>(first: Colour, second: Colour, f: F) -> Colour
     requires red { F.pre f first.red second.red }
     requires green { F.pre f first.green second.green }
@@ -27,6 +28,7 @@ fn zip_channels<F: Fn(u8, u8) -> u8>(first: Colour, second: Colour, f: F) -> Col
 
 // A raster rule on one channel. It is the or of the four ways in which two bits can stand, each of which one bit of the rule keeps
 // or drops. The rule is a number and no enum, since its bits are its truth table: each of the sixteen is a rule.
+#[inline(always)]
 #[tactic(auto, using(crate::proofs::Minterms::channel_joined, crate::proofs::Formulas::raster_chooses, crate::proofs::Formulas::joined_follows))]
 pub fn raster_channel(rule: u8, first: u8, second: u8) -> u8
     ensures is { result ≡ raster_channel rule first second }
@@ -41,6 +43,7 @@ pub fn raster_channel(rule: u8, first: u8, second: u8) -> u8
 }
 
 // The same on each channel, by a rule that is a number for the same reason.
+#[inline(always)]
 pub fn raster(rule: u8, first: Colour, second: Colour) -> Option<Colour>
     ensures is { result ≡ Some (rastered rule first second) }
     ensures bits { SomeEach (ChoosesBits rule) first second result }
@@ -50,6 +53,7 @@ pub fn raster(rule: u8, first: Colour, second: Colour) -> Option<Colour>
 }
 
 // The colour, but none where the source's value is the key.
+#[inline(always)]
 pub fn keyed(value: u32, key: u32, colour: Colour) -> Option<Colour>
     ensures is { result ≡ keyed value key colour }
     ensures means { IsKeyed value key colour result }
@@ -58,6 +62,7 @@ pub fn keyed(value: u32, key: u32, colour: Colour) -> Option<Colour>
 }
 
 // The colour of a bit of a one-bit picture.
+#[inline(always)]
 pub fn expanded(bit: u32, foreground: Colour, background: Colour) -> Option<Colour>
     ensures is { result ≡ expanded bit foreground background }
     ensures means { IsExpanded bit (Some foreground) (Some background) result }
@@ -66,6 +71,7 @@ pub fn expanded(bit: u32, foreground: Colour, background: Colour) -> Option<Colo
 }
 
 // The same, but none for a 0.
+#[inline(always)]
 pub fn expanded_over(bit: u32, foreground: Colour) -> Option<Colour>
     ensures is { result ≡ expanded_over bit foreground }
     ensures means { IsExpanded bit (Some foreground) None result }
@@ -75,6 +81,7 @@ pub fn expanded_over(bit: u32, foreground: Colour) -> Option<Colour>
 
 // The mean of two channels, of which the first counts level times in 32 and the second the other times. A level above 32 counts
 // as 32.
+#[inline(always)]
 #[tactic(auto, using(crate::proofs::Blends::blend_between), unfolding(crate::specs::Blends::blend_channel))]
 pub fn blend_channel(level: u8, first: u8, second: u8) -> u8
     ensures mean { result ≡ blend_channel level first second }
@@ -85,6 +92,7 @@ pub fn blend_channel(level: u8, first: u8, second: u8) -> u8
     ((first as u16 * weight + second as u16 * (32 - weight)) / 32) as u8
 }
 
+#[inline(always)]
 pub fn blended(level: u8, first: Colour, second: Colour) -> Option<Colour>
     ensures mean { result ≡ Some (blended level first second) }
     ensures weighed { SomeEach (IsMean level) first second result }
@@ -93,6 +101,7 @@ pub fn blended(level: u8, first: Colour, second: Colour) -> Option<Colour>
     Some(zip_channels(first, second, |x, y| blend_channel(level, x, y)))
 }
 
+#[inline(always)]
 pub fn filled(foreground: Colour) -> Option<Colour>
     ensures is { result ≡ filled foreground }
     ensures means { result ≡ Some foreground }

@@ -2,3 +2,4 @@ pub mod Yields
 pub mod Chosen
 pub mod Meanings
 pub mod Levels
+pub mod Values

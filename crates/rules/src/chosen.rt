@@ -4,8 +4,8 @@ ghost use Rattle.std.specs.Prelude.{◌≡◌, ℕ};
 ghost use Rattle.rules.specs.Chosen.{rule_yields};
 ghost use Rattle.rules.specs.Meanings.{Means};
 
-use crate::{Blend, Expand, ExpandOver, Fill, Key, OverlayBlend, PixelRule, Raster};
-use colour::{Colour, Palette, Readable};
+use crate::{Blend, Expand, ExpandOver, Fill, Key, OverlayBlend, PixelRule, Raster, ValueRule};
+use colour::{Canvas, Colour, Palette, Readable};
 use formats::{Depth, OverlayKind};
 
 #[derive(Clone, Copy)]
@@ -22,6 +22,7 @@ pub enum Rule {
 impl PixelRule for Rule {
     ghost yields = { rule_yields };
 
+    #[inline(always)]
     #[tactic(auto, using(crate::proofs::Meanings::means_of))]
     fn colour(&self, palette: &Palette, first: u32, second: u32) -> Option<Colour>
         ensures is { result ≡ rule_yields self.now palette.now first second }
@@ -35,6 +36,18 @@ impl PixelRule for Rule {
             Rule::Blend(rule) => rule.colour(palette, first, second),
             Rule::OverlayBlend(rule) => rule.colour(palette, first, second),
             Rule::Fill(rule) => rule.colour(palette, first, second),
+        }
+    }
+
+    fn on_values<D: Canvas>(&self, canvas: &D) -> Option<ValueRule> {
+        match self {
+            Rule::Raster(rule) => rule.on_values(canvas),
+            Rule::Key(rule) => rule.on_values(canvas),
+            Rule::Expand(rule) => rule.on_values(canvas),
+            Rule::ExpandOver(rule) => rule.on_values(canvas),
+            Rule::Blend(rule) => rule.on_values(canvas),
+            Rule::OverlayBlend(rule) => rule.on_values(canvas),
+            Rule::Fill(rule) => rule.on_values(canvas),
         }
     }
 }

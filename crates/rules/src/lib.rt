@@ -1,15 +1,19 @@
 // Pixel rules as values: one text can draw every operation.
 #![tactic(auto)]
 
-ghost use Rattle.std.specs.Prelude.{◌≡◌, ℕ, ◌<◌, ◌≤◌, Ok, Err};
+ghost use Rattle.std.specs.Prelude.{◌≡◌, ℕ, ◌<◌, ◌≤◌, true, Ok, Err, IfSome};
 ghost use Rattle.refusal.specs.Numbers.{numbered};
 ghost use Rattle.rules.specs.Yields.{Yields, raster_yields, key_yields, expand_yields, expand_over_yields, blend_yields, overlay_blend_yields, fill_yields};
+ghost use Rattle.rules.specs.Values.{Agrees};
+ghost use Rattle.colour.specs.Unpacks.{Unpacks};
 
 mod chosen;
+mod values;
 
 pub use chosen::Rule;
-use colour::{Canvas, Colour, Overlay, Palette, Readable};
+use colour::{Canvas, Colour, Fields, Overlay, Palette, Readable};
 use refusal::Refusal;
+pub use values::ValueRule;
 
 pub trait PixelRule {
     ghost yields: { Self → Yields };
@@ -17,7 +21,25 @@ pub trait PixelRule {
     // The colour of a pixel whose sources have these values, or none, which leaves the pixel as it is.
     fn colour(&self, palette: &Palette, first: u32, second: u32) -> Option<Colour>
         ensures { result ≡ yields self.now palette.now first second };
+
+    /// What the rule does on plain values on a canvas, where it is known.
+    fn on_values<D: Canvas>(&self, canvas: &D) -> Option<ValueRule>
+        ensures { IfSome result (Agrees (yields self.now) (D.format canvas.now) (D.narrowed canvas.now)) }
+    {
+        let _ = canvas;
+        None
+    }
 }
+
+// Whether a format is known to be of these fields.
+fn has_fields<F: Readable>(format: &F, fields: Fields) -> bool
+    ensures { result ≡ true → Unpacks (F.format format.now) fields }
+{
+    format.fields() == Some(fields)
+}
+
+// The raster rule that gives the first source, whatever the second.
+const COPY: u8 = 12;
 
 // A raster rule on both sources: a number, since its bits are its truth table.
 #[derive(Clone, Copy)]
@@ -30,12 +52,24 @@ pub struct Raster<F, S> {
 impl<F: Readable, S: Readable> PixelRule for Raster<F, S> {
     ghost yields = { λ r. raster_yields (F.format r.first) (S.format r.second) r.rule };
 
+    #[inline(always)]
     fn colour(&self, palette: &Palette, first: u32, second: u32) -> Option<Colour> {
         pixel::raster(
             self.rule,
             self.first.colour(palette, first),
             self.second.colour(palette, second),
         )
+    }
+
+    fn on_values<D: Canvas>(&self, canvas: &D) -> Option<ValueRule> {
+        let fields = canvas.fields()?;
+        if !has_fields(&self.first, fields) {
+            return None;
+        }
+        if self.rule == COPY {
+            return Some(ValueRule::First);
+        }
+        has_fields(&self.second, fields).then_some(ValueRule::Raster(self.rule))
     }
 }
 
@@ -49,12 +83,19 @@ pub struct Key<F> {
 impl<F: Canvas> PixelRule for Key<F> {
     ghost yields = { λ r. key_yields (F.format r.first) (F.narrowed r.first) r.background };
 
+    #[inline(always)]
     fn colour(&self, palette: &Palette, first: u32, _second: u32) -> Option<Colour> {
         pixel::keyed(
             first,
             self.first.narrow(self.background),
             self.first.colour(palette, first),
         )
+    }
+
+    fn on_values<D: Canvas>(&self, canvas: &D) -> Option<ValueRule> {
+        let fields = canvas.fields()?;
+        let key = self.first.narrow(self.background);
+        has_fields(&self.first, fields).then_some(ValueRule::Key(key))
     }
 }
 
@@ -68,8 +109,16 @@ pub struct Expand {
 impl PixelRule for Expand {
     ghost yields = { λ r. expand_yields r.foreground r.background };
 
+    #[inline(always)]
     fn colour(&self, _palette: &Palette, first: u32, _second: u32) -> Option<Colour> {
         pixel::expanded(first, self.foreground, self.background)
+    }
+
+    fn on_values<D: Canvas>(&self, canvas: &D) -> Option<ValueRule> {
+        Some(ValueRule::Expand {
+            one: canvas.narrow(self.foreground),
+            zero: Some(canvas.narrow(self.background)),
+        })
     }
 }
 
@@ -83,8 +132,16 @@ pub struct ExpandOver {
 impl PixelRule for ExpandOver {
     ghost yields = { λ r. expand_over_yields r.foreground };
 
+    #[inline(always)]
     fn colour(&self, _palette: &Palette, first: u32, _second: u32) -> Option<Colour> {
         pixel::expanded_over(first, self.foreground)
+    }
+
+    fn on_values<D: Canvas>(&self, canvas: &D) -> Option<ValueRule> {
+        Some(ValueRule::Expand {
+            one: canvas.narrow(self.foreground),
+            zero: None,
+        })
     }
 }
 
@@ -121,12 +178,20 @@ impl<F: Copy, S: Copy> Blend<F, S> {
 impl<F: Readable, S: Readable> PixelRule for Blend<F, S> {
     ghost yields = { λ r. blend_yields (F.format r.first) (S.format r.second) r.level };
 
+    #[inline(always)]
     fn colour(&self, palette: &Palette, first: u32, second: u32) -> Option<Colour> {
         pixel::blended(
             self.level,
             self.first.colour(palette, first),
             self.second.colour(palette, second),
         )
+    }
+
+    fn on_values<D: Canvas>(&self, canvas: &D) -> Option<ValueRule> {
+        let fields = canvas.packed_fields()?;
+        let level = self.level;
+        let both = has_fields(&self.first, fields) && has_fields(&self.second, fields);
+        both.then_some(ValueRule::Blend { level, fields })
     }
 }
 
@@ -140,6 +205,7 @@ pub struct OverlayBlend<F, S> {
 impl<F: Readable, S: Overlay> PixelRule for OverlayBlend<F, S> {
     ghost yields = { λ r. overlay_blend_yields (F.format r.first) (S.format r.second) (S.levels r.second) };
 
+    #[inline(always)]
     fn colour(&self, palette: &Palette, first: u32, second: u32) -> Option<Colour> {
         let level = self.second.level(second);
         pixel::blended(
@@ -159,7 +225,12 @@ pub struct Fill {
 impl PixelRule for Fill {
     ghost yields = { λ r. fill_yields r.foreground };
 
+    #[inline(always)]
     fn colour(&self, _palette: &Palette, _first: u32, _second: u32) -> Option<Colour> {
         pixel::filled(self.foreground)
+    }
+
+    fn on_values<D: Canvas>(&self, canvas: &D) -> Option<ValueRule> {
+        Some(ValueRule::Fill(canvas.narrow(self.foreground)))
     }
 }
