@@ -3,3 +3,6 @@ pub mod Samples
 pub mod Pictures
 pub mod Meanings
 pub mod Shapes
+pub mod RowPixels
+pub mod Repeating
+pub mod TakenBits

@@ -5,3 +5,4 @@ pub mod Reaches
 pub mod Shapes
 pub mod Pictures
 pub mod Meanings
+pub mod Strips

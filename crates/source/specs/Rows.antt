@@ -38,9 +38,17 @@ unit_of r k = k / r.columns * row_units r + depth_in_row r k / r.unit
 abbrev pub unit_pixels : Rows → ℕ → ℕ
 unit_pixels r k = min (r.unit - depth_in_row r k % r.unit) (r.columns - k % r.columns)
 
+-- where the unit of pixel k begins, if the rows begin at an address
+abbrev pub unit_address : Rows → ℕ → ℕ → ℕ
+unit_address r start k = start + unit_of r k * (r.unit / 8)
+
+-- how many bytes the units have that hold n pixels of a row, the first of them being k
+abbrev pub units_bytes : Rows → ℕ → ℕ → ℕ
+units_bytes r k n = (depth_in_row r k % r.unit + n + (r.unit - 1)) / r.unit * (r.unit / 8)
+
 -- where the byte lies that holds the bit of pixel k, if the rows begin at an address
 abbrev pub bit_address : Rows → ℕ → ℕ → ℕ
-bit_address r start k = start + unit_of r k * (r.unit / 8) + bit_of r k / 8
+bit_address r start k = unit_address r start k + bit_of r k / 8
 
 -- the first address past so many rows, if they begin at an address
 abbrev pub rows_reach : Rows → ℕ → ℕ → ℕ

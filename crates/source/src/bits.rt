@@ -1,7 +1,7 @@
 // The bits of one-bit pictures.
 ghost use Rattle.std.specs.Prelude.{◌≡◌, ℕ, ◌+◌, ◌-◌, ◌*◌, ◌/◌, ◌%◌, ◌^◌, ◌<◌, ◌≤◌};
 ghost use Rattle.source.specs.Units.{unit_bits};
-ghost use Rattle.source.specs.Rows.{rows_of, skipped, row_units, depth_in_row, bit_of, unit_of, unit_pixels, bit_address, rows_reach, rows_at, shown_rows, RowsMade};
+ghost use Rattle.source.specs.Rows.{rows_of, skipped, row_units, depth_in_row, bit_of, unit_of, unit_pixels, unit_address, units_bytes, bit_address, rows_reach, rows_at, shown_rows, RowsMade};
 ghost use Rattle.source.specs.Pictures.{BitsInRowOrder, FewestUnits, GivesItsOwn};
 
 use crate::rows::{BitRows, Unit};
@@ -61,6 +61,13 @@ impl BitRows {
         k % self.columns as u32 + self.skipped()
     }
 
+    // How far pixel k lies from the top bit of its unit.
+    pub(crate) fn depth(&self, k: u32) -> u32
+        ensures { result ≡ depth_in_row (rows_of self.now) k % (rows_of self.now).unit }
+    {
+        self.depth_in_row(k) % self.unit.bits() as u32
+    }
+
     // The bit of its unit that pixel k takes.
     #[tactic(auto, using(crate::proofs::Pictures::bits_in_row_order))]
     pub fn bit(&self, k: u32) -> u32
@@ -86,10 +93,25 @@ impl BitRows {
     pub fn address(&self, start: u32, k: u32) -> u64
         ensures { result ≡ bit_address (rows_of self.now) start k }
     {
+        self.unit_address(start, k) + self.bit(k) as u64 / 8
+    }
+
+    // Where the unit of pixel k begins, if the rows begin at `start`.
+    pub(crate) fn unit_address(&self, start: u32, k: u32) -> u64
+        ensures { result ≡ unit_address (rows_of self.now) start k }
+    {
         let bits = self.unit.bits() as u64;
         let row = (k / self.columns as u32) as u64;
         let unit = row * self.units() as u64 + self.depth_in_row(k) as u64 / bits;
-        start as u64 + unit * (bits / 8) + self.bit(k) as u64 / 8
+        start as u64 + unit * (bits / 8)
+    }
+
+    // How many bytes the units have that hold `count` pixels of a row, the first of them being k.
+    pub(crate) fn bytes_of(&self, k: u32, count: u32) -> u64
+        ensures { result ≡ units_bytes (rows_of self.now) k count }
+    {
+        let bits = self.unit.bits() as u64;
+        (self.depth(k) as u64 + count as u64).div_ceil(bits) * (bits / 8)
     }
 
     // The first address past so many rows, if they begin at `start`.

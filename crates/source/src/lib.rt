@@ -4,6 +4,8 @@
 mod bits;
 mod rows;
 mod source;
+mod spread;
+mod strips;
 mod values;
 
 pub use rows::{BitRows, Unit};

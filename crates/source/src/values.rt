@@ -13,7 +13,7 @@ use memory::Memory;
 use window::byte_at;
 
 // One bit of a number.
-fn bit_of(number: u32, bit: u32) -> u32
+pub(crate) fn bit_of(number: u32, bit: u32) -> u32
     requires { bit < 32 }
     ensures { result ≡ number / 2 ^ bit % 2 }
 {

@@ -3,3 +3,5 @@ pub mod Values
 pub mod Frames
 pub mod Places
 pub mod Geometry
+pub mod Rows
+pub mod Spans

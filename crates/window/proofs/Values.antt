@@ -11,7 +11,7 @@ unfolding value_at
 value_lt m s a zero = lit< tt
 value_lt m s a (suc b) = rw (mul-suc 8 b, pow-add 2 (8 * b) 8) (omega (arith, s.bytes a, value_lt m s (a + 1) b))
 
-abbrev four_zeros : List ℕ
+abbrev pub four_zeros : List ℕ
 four_zeros = 0 ∷ 0 ∷ 0 ∷ 0 ∷ []
 
 -- the value whose bytes are the first of four, the others being 0
@@ -30,7 +30,7 @@ unfolding stored
 stored_more m a b v = rw (add-one b)
 
 -- the four bytes of a number, low byte first
-abbrev four_bytes : ℕ → List ℕ
+abbrev pub four_bytes : ℕ → List ℕ
 four_bytes v = v % 256 ∷ v / 256 % 256 ∷ v / 65536 % 256 ∷ v / 16777216 % 256 ∷ []
 
 byte_of : (v i : ℕ) → i < 4 → get_or (four_bytes v) i 0 ≡ v / 256 ^ i % 256

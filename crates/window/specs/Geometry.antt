@@ -11,6 +11,10 @@ begins a b c r = a.start + ((a.top + r) * a.image + a.left + c) * b
 abbrev pub InRowOrder : Area → ℕ → Type 0
 InRowOrder a b = (c r : ℕ) → c < a.width → place a b (r * a.width + c) ≡ begins a b c r
 
+-- the n pixels from k on lie side by side: pixel k + i begins i pixels past pixel k, at any number of bytes a pixel
+abbrev pub SideBySide : Area → ℕ → ℕ → Type 0
+SideBySide a k n = (i : ℕ) → i < n → (b : ℕ) → place a b (k + i) ≡ place a b k + i * b
+
 -- column c and row r of a rectangle so many columns wide have the window's pixel in column c mod width and row r mod height
 abbrev pub Repeats : Area → ℕ → Type 0
 Repeats a columns = (c r : ℕ) → c < columns → cell a columns (r * columns + c) ≡ r % a.height * a.width + c % a.width

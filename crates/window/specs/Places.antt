@@ -22,9 +22,13 @@ shown (Err e) = Err (number_of e)
 abbrev pub pixels : Area → ℕ
 pixels a = a.width * a.height
 
--- where pixel k begins, at b bytes a pixel: k counts row by row from the top, from left to right
+-- which pixel of its image pixel k is: k counts row by row from the top, from left to right
+abbrev pub in_image : Area → ℕ → ℕ
+in_image a k = (a.top + k / a.width) * a.image + a.left + k % a.width
+
+-- where pixel k begins, at b bytes a pixel
 unfoldable pub place : Area → ℕ → ℕ → ℕ
-place a b k = a.start + ((a.top + k / a.width) * a.image + a.left + k % a.width) * b
+place a b k = a.start + in_image a k * b
 
 -- the pixel of a window that stands at pixel k of a rectangle with so many columns, where copies of the window lie
 -- side by side and below one another; no columns have the first pixel everywhere

@@ -8,6 +8,6 @@ mod size;
 mod window;
 
 pub use area::Area;
-pub use bytes::{byte_at, put_byte};
+pub use bytes::{byte_at, bytes_at, put_byte};
 pub use size::PixelSize;
 pub use window::{SIDE_LIMIT, Window};

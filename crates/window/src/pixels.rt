@@ -1,9 +1,9 @@
 // What a window holds, and where.
-ghost use Rattle.std.specs.Prelude.{◌≡◌, ℕ, ◌+◌, ◌*◌, ◌^◌, ◌<◌, ◌≤◌};
+ghost use Rattle.std.specs.Prelude.{◌≡◌, ℕ, ◌+◌, ◌-◌, ◌*◌, ◌%◌, ◌^◌, ◌<◌, ◌≤◌};
 ghost use Rattle.window.specs.Limits.{side, within, MadeExactly};
-ghost use Rattle.window.specs.Places.{area_of, window_at, shown, pixels, place, cell, reach};
+ghost use Rattle.window.specs.Places.{area_of, window_at, shown, pixels, in_image, place, cell, reach};
 ghost use Rattle.window.specs.Values.{value_at, stored, LowByteFirst, ReplacedInside};
-ghost use Rattle.window.specs.Geometry.{InRowOrder, Repeats, PixelByte, LeastSize};
+ghost use Rattle.window.specs.Geometry.{InRowOrder, Repeats, SideBySide, PixelByte, LeastSize};
 
 use crate::area::Area;
 use crate::bytes::{byte_at, put_byte};
@@ -64,16 +64,55 @@ impl Window {
         self.area.width as u32 * self.area.height as u32
     }
 
-    // Where pixel k begins. The numbers of a window are small enough that nothing wraps.
+    // Which pixel of its image pixel k is. Where the image is as wide as the window, no row has to be found.
+    #[tactic(auto, using(crate::proofs::Rows::whole_rows))]
+    fn pixel(&self, k: u32) -> u64
+        ensures { result ≡ in_image (area_of self.now) k }
+    {
+        let columns = self.area.width as u32;
+        let image = self.area.image as u64;
+        if image == columns as u64 {
+            return self.area.top as u64 * image + k as u64;
+        }
+        let row = self.area.top as u64 + (k / columns) as u64;
+        row * image + self.area.left as u64 + (k % columns) as u64
+    }
+
+    /// The address where pixel `k` begins, at `size` bytes a pixel. The numbers of a window are small enough that nothing wraps.
     #[tactic(auto, using(crate::proofs::Limits::pixel_low), unfolding(crate::specs::Places::place))]
-    fn address(&self, size: PixelSize, k: u32) -> u64
+    #[inline(never)]
+    pub fn address(&self, size: PixelSize, k: u32) -> u64
         ensures is { result ≡ place (area_of self.now) size.bytes k }
         ensures low { result < 2 ^ 60 }
     {
+        self.area.start as u64 + self.pixel(k) * size.bytes as u64
+    }
+
+    /// How many pixels of its row stand from pixel `k` on, itself counted.
+    pub fn rest_of_row(&self, k: u32) -> u32
+        ensures is { result ≡ (area_of self.now).width - k % (area_of self.now).width }
+        ensures some { 1 ≤ result }
+    {
         let columns = self.area.width as u32;
-        let row = self.area.top as u64 + (k / columns) as u64;
-        let pixel = row * self.area.image as u64 + self.area.left as u64 + (k % columns) as u64;
-        self.area.start as u64 + pixel * size.bytes as u64
+        columns - k % columns
+    }
+
+    /// How many pixels from `k` on lie side by side in memory, without a gap: those of its row, or all that are left where the image
+    /// is as wide as the window.
+    #[tactic(auto, using(crate::proofs::Rows::row_beside, crate::proofs::Rows::whole_beside, crate::proofs::Rows::row_left))]
+    #[inline(never)]
+    pub fn beside(&self, k: u32) -> u32
+        ensures gapless { SideBySide (area_of self.now) k result }
+        ensures row { (area_of self.now).width - k % (area_of self.now).width ≤ result }
+        ensures some { 1 ≤ result }
+    {
+        if self.area.image == self.area.width {
+            let left = self.pixels().saturating_sub(k);
+            if left > 0 {
+                return left;
+            }
+        }
+        self.rest_of_row(k)
     }
 
     // The pixel of the window that stands at pixel k of a rectangle so many columns wide, where copies of the window
