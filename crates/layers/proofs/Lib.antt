@@ -1,4 +1,9 @@
+pub mod LaidSpans
 pub mod Lays
+pub mod PartSpans
 pub mod Parts
+pub mod QueueLate
+pub mod QueueMerges
+pub mod QueueSpans
 pub mod Queues
 pub mod Waits

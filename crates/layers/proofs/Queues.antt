@@ -1,12 +1,13 @@
 -- The cases of a put to a write queue, and what it leaves of what the queue shows.
-use Rattle.std.proofs.Common.{◌≡◌, ℕ, ◌%◌, ◌<◌, ◌≤◌, Bool, true, false, cond, ltb, List, [], ◌∷◌, length, get_or, take, drop, set, refl, ap, ◌∙◌, ⊎_elim, mod-eq_of_lt, arith}
-use Rattle.std.proofs.lemmas.Bool.{cases_Bool, lt-ltb, le-ltb}
+use Rattle.std.proofs.Common.{◌≡◌, ℕ, ◌%◌, ◌<◌, ◌≤◌, Bool, true, false, cond, ltb, List, [], ◌∷◌, length, get_or, take, drop, set, sym, refl, ap, ◌∙◌, ⊎_elim, mod-eq_of_lt, arith}
+use Rattle.std.proofs.lemmas.Bool.{cases_Bool, cases_lt, lt-ltb, le-ltb}
+use Rattle.std.proofs.lemmas.List.{set_past}
 use Rattle.layers.specs.declared.pending.Entry.{Entry}
 use Rattle.layers.specs.Entries.{none, entry}
 use Rattle.layers.specs.Laid.{laid}
 use Rattle.layers.specs.Places.{Last, Absent}
 use Rattle.layers.specs.Queue.{Queue, queue, over, waits, sent, pushed, taken, queued}
-use Rattle.layers.proofs.Lays.{laid_push}
+use Rattle.layers.proofs.Lays.{laid_push, length_laid}
 use Rattle.layers.proofs.Waits.{waits_absent, waits_last, changed_last, laid_changed}
 
 module _ (q : Queue) (a v : ℕ) where
@@ -55,9 +56,31 @@ module _ (q : Queue) (a v : ℕ) where
   over_last true = over_pushed q a v
   over_last false = over_pushed (sent q) a v ∙ ap (λ m. set m a (v % 256)) (laid_sent q.below q.entries)
 
-  over_taken : over (taken q a v) ≡ set (over q) a (v % 256)
+  pub over_taken : over (taken q a v) ≡ set (over q) a (v % 256)
   unfolding taken
   over_taken = ⊎_elim (λ h. rw h (laid_changed q.below q.entries a v h)) (λ h. rw h (over_last (ltb (length q.entries) 16))) (cases_Bool (waits q.entries a))
 
   pub over_after : (q' : Queue) → v < 256 → q' ≡ taken q a v → over q' ≡ set (over q) a v
   over_after q' h e = ap over e ∙ over_taken ∙ ap (set (over q) a) (mod-eq_of_lt h)
+
+module _ (q : Queue) (a v : ℕ) where
+  length_last : (b : Bool) → length (cond b (pushed q a v) (pushed (sent q) a v)).below ≡ length q.below
+  length_last true = refl
+  length_last false = length_laid q.below (take 1 q.entries)
+
+  length_taken : length (taken q a v).below ≡ length q.below
+  unfolding taken
+  length_taken = ⊎_elim (λ h. rw h refl) (λ h. rw h (length_last (ltb (length q.entries) 16))) (cases_Bool (waits q.entries a))
+
+  pub length_queued : length (queued q a v).below ≡ length q.below
+  length_queued = ⊎_elim
+      (λ h. ap (λ p. length p.below) (sym (queued_in q a v h)) ∙ length_taken)
+      (λ h. ap (λ p. length p.below) (sym (queued_past q a v h)))
+      (cases_lt a (length q.below))
+
+  -- what the queue shows after a put
+  pub over_queued : over (queued q a v) ≡ set (over q) a (v % 256)
+  over_queued = ⊎_elim
+      (λ h. ap over (sym (queued_in q a v h)) ∙ over_taken q a v)
+      (λ h. ap over (sym (queued_past q a v h)) ∙ sym (set_past (over q) a (v % 256) (omega (arith, length_laid q.below q.entries))))
+      (cases_lt a (length q.below))

@@ -12,3 +12,7 @@ pub record Last (es : List Entry) (a i : ℕ) : Type 0 where
 -- no entry is for the address a
 abbrev pub Absent : List Entry → ℕ → Type 0
 Absent es a = All (λ e. e.address ≢ a) es
+
+-- no entry is for one of the n addresses from a on
+abbrev pub Apart : List Entry → ℕ → ℕ → Type 0
+Apart es a n = (i : ℕ) → i < n → Absent es (a + i)

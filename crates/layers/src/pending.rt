@@ -2,7 +2,7 @@
 ghost use Rattle.std.specs.Prelude.{◌≡◌, ◌<◌, ◌≤◌, ◌==◌, [], ◌∷◌, ◌++◌, length, drop, MatchOption, slice_index_or, slice_set};
 ghost use Rattle.layers.specs.Entries.{none};
 ghost use Rattle.layers.specs.Places.{Last, Absent};
-ghost use Rattle.layers.specs.Queue.{Once};
+ghost use Rattle.layers.specs.Queue.{waits_within, Once};
 
 use arrayvec::ArrayVec;
 use std::marker::Model;
@@ -63,6 +63,14 @@ impl Pending {
         ensures { MatchOption result (Absent self.now address) (λ i. Last self.now address i) }
     {
         self.table.iter().position(|entry| entry.address == address)
+    }
+
+    // Whether one of `count` addresses from `address` on waits.
+    pub(crate) fn waits_within(&self, address: u32, count: u32) -> bool
+        ensures waits { result ≡ waits_within self.now address count }
+        ensures most { length self.now ≤ 16 }
+    {
+        self.table.iter().any(|entry| entry.address >= address && entry.address - address < count)
     }
 
     pub(crate) fn at(&self, i: usize) -> Entry

@@ -1,16 +1,18 @@
 // A write queue over any memory: up to 16 puts wait, and go below the oldest first.
-ghost use Rattle.std.specs.Prelude.{◌≡◌, ◌<◌, ◌≤◌, [], length, slice_set};
+ghost use Rattle.std.specs.Prelude.{◌≡◌, ◌+◌, ◌-◌, ◌<◌, ◌≤◌, [], length, slice_index, slice_set};
 ghost use Rattle.refusal.specs.Numbers.{numbered};
 ghost use Rattle.memory.specs.Bytes.{read_at, put_at};
+ghost use Rattle.memory.specs.Spans.{overlaid, times, merged, copied};
 ghost use Rattle.layers.specs.Laid.{laid, laid_sound};
-ghost use Rattle.layers.specs.Queue.{queue, sent, drained, taken, queued, Once};
+ghost use Rattle.layers.specs.Queue.{queue, sent, drained, taken, queued};
+ghost use Rattle.layers.specs.Queue.{queued_all, queued_merged, queued_copied, through, Once};
 
 use super::pending::{Entry, Pending};
-use memory::Memory;
+use memory::{ByteRule, First, Memory};
 use refusal::Refusal;
 
-// What it shows is the memory below, but at each address that waits the byte that waits there. Not `Drop`, so no waiting byte can be lost: it ends by `into_below`. No
-// model: `new` says that it holds the memory itself.
+// What it shows is the memory below, but at each address that waits the byte that waits there. Not `Drop`, so no waiting byte can be
+// lost: it ends by `into_below`. No model: `new` says that it holds the memory itself.
 pub struct WriteQueue<M> {
     below: M,
     pending: Pending,
@@ -85,6 +87,76 @@ impl<M: Memory> WriteQueue<M> {
             }
         }
     }
+
+    // How many of `count` bytes put from an address on go below in one call. The last 16 wait. A put changes what waits for its
+    // address and sends nothing; but that happens 16 times at most, so 32 puts send all that waited, and 48 leave only the last.
+    fn through(&self, address: u32, count: u32) -> u32
+        ensures through { result ≡ through self.now.pending address count }
+        ensures most { 0 < result → length self.now.pending ≤ 16 }
+    {
+        if count <= 16 || (self.pending.waits_within(address, count) && count < 48) {
+            return 0;
+        }
+        count - 16
+    }
+
+    // Puts bytes one by one from an address on.
+    fn put_each(&mut self, address: u32, bytes: &[u8])
+        ensures { queue (M.bytes self.new.below) self.new.pending
+            ≡ queued_all (queue (M.bytes self.old.below) self.old.pending) address bytes.now }
+    {
+        for (i, byte) in bytes.iter().enumerate() {
+            if let Ok(address) = u32::try_from(address as u64 + i as u64) {
+                let _ = self.put(address, *byte);
+            }
+        }
+    }
+
+    // Puts the bytes of a pixel one by one, `count` times over.
+    fn fill_each(&mut self, address: u32, pixel: &[u8], count: u32)
+        ensures { queue (M.bytes self.new.below) self.new.pending
+            ≡ queued_all (queue (M.bytes self.old.below) self.old.pending)
+            address (times pixel.now count) }
+    {
+        for k in 0..count {
+            let start = address as u128 + k as u128 * pixel.len() as u128;
+            if let Ok(address) = u32::try_from(start) {
+                self.put_each(address, pixel);
+            }
+        }
+    }
+
+    // The byte `i` places from an address on, or 0 past the end.
+    fn byte_at(&self, address: u32, i: u32) -> u8
+        ensures { result ≡ slice_index (laid (M.bytes self.now.below) self.now.pending) (address + i) }
+    {
+        address
+            .checked_add(i)
+            .map_or(0, |address| self.read(address).unwrap_or(0))
+    }
+
+    // Merges `count` bytes one by one, but for the first `done` of them.
+    fn merge_each<F: ByteRule>(
+        &mut self,
+        rule: F,
+        first: u32,
+        second: u32,
+        to: u32,
+        done: u32,
+        count: u32,
+    )
+        requires { done ≤ count }
+        ensures { queue (M.bytes self.new.below) self.new.pending
+            ≡ queued_merged (F.gives rule) (queue (M.bytes self.old.below) self.old.pending)
+            (first + done) (second + done) (to + done) (count - done) }
+    {
+        for i in done..count {
+            let byte = rule.byte(self.byte_at(first, i), self.byte_at(second, i));
+            if let Some(address) = to.checked_add(i) {
+                let _ = self.put(address, byte);
+            }
+        }
+    }
 }
 
 impl<M: Memory> Memory for WriteQueue<M> {
@@ -119,5 +191,94 @@ impl<M: Memory> Memory for WriteQueue<M> {
         }
         self.keep(Entry { address, value });
         Ok(())
+    }
+
+    // The bytes below, and over them those that wait.
+    fn load(&self, address: u32, into: &mut [u8]) {
+        self.below.load(address, into);
+        let end = (self.size() as u64).min(address as u64 + into.len() as u64);
+        for i in 0..self.pending.len() {
+            let entry = self.pending.at(i);
+            if entry.address >= address && (entry.address as u64) < end {
+                into[(entry.address - address) as usize] = entry.value;
+            }
+        }
+    }
+
+    // A span is so many puts, one after another. Those that would by the end have gone below go there in one call, after all that
+    // waits; the others are puts.
+    fn store(&mut self, address: u32, from: &[u8])
+        ensures after { laid (M.Memory.bytes self.new.below) self.new.pending
+            ≡ overlaid (laid (M.Memory.bytes self.old.below) self.old.pending) address from.now }
+        ensures kept { queue (M.Memory.bytes self.new.below) self.new.pending
+            ≡ queued_all (queue (M.Memory.bytes self.old.below) self.old.pending) address from.now }
+    {
+        let room = self.size().saturating_sub(address) as usize;
+        let inside = &from[..from.len().min(room)];
+        let through = self.through(address, inside.len() as u32);
+        let (first, last) = inside.split_at(through as usize);
+        if through > 0 {
+            self.drain(); // what waits is older
+            self.below.store(address, first);
+        }
+        self.put_each(address + through, last);
+    }
+
+    // As `store`; whole pixels go below in one call.
+    fn fill(&mut self, address: u32, pixel: &[u8], count: u32)
+        ensures after { laid (M.Memory.bytes self.new.below) self.new.pending
+            ≡ overlaid (laid (M.Memory.bytes self.old.below) self.old.pending)
+            address (times pixel.now count) }
+        ensures kept { queue (M.Memory.bytes self.new.below) self.new.pending
+            ≡ queued_all (queue (M.Memory.bytes self.old.below) self.old.pending)
+            address (times pixel.now count) }
+    {
+        if pixel.is_empty() {
+            return;
+        }
+        let room = self.size().saturating_sub(address) as usize;
+        let inside = pixel.len().saturating_mul(count as usize).min(room);
+        let through = self.through(address, inside as u32) as usize / pixel.len();
+        if through > 0 {
+            self.drain();
+            self.below.fill(address, pixel, through as u32);
+        }
+        let last = inside.div_ceil(pixel.len()) - through;
+        let start = address as usize + through * pixel.len();
+        self.fill_each(start as u32, pixel, last as u32);
+    }
+
+    // As `store`, each byte as it then is.
+    fn copy(&mut self, from: u32, to: u32, count: u32)
+        ensures after { laid (M.Memory.bytes self.new.below) self.new.pending
+            ≡ copied (laid (M.Memory.bytes self.old.below) self.old.pending) from to count }
+        ensures kept { queue (M.Memory.bytes self.new.below) self.new.pending
+            ≡ queued_copied (queue (M.Memory.bytes self.old.below) self.old.pending) from to count }
+    {
+        let inside = count.min(self.size().saturating_sub(to));
+        let through = self.through(to, inside);
+        if through > 0 {
+            self.drain();
+            self.below.copy(from, to, through);
+        }
+        self.merge_each(First, from, from, to, through, inside);
+    }
+
+    // As `copy`.
+    fn merge<F: ByteRule>(&mut self, rule: F, first: u32, second: u32, to: u32, count: u32)
+        ensures after { laid (M.Memory.bytes self.new.below) self.new.pending
+            ≡ merged (F.gives rule) (laid (M.Memory.bytes self.old.below) self.old.pending)
+            first second to count }
+        ensures kept { queue (M.Memory.bytes self.new.below) self.new.pending
+            ≡ queued_merged (F.gives rule) (queue (M.Memory.bytes self.old.below) self.old.pending)
+            first second to count }
+    {
+        let inside = count.min(self.size().saturating_sub(to));
+        let through = self.through(to, inside);
+        if through > 0 {
+            self.drain();
+            self.below.merge(rule, first, second, to, through);
+        }
+        self.merge_each(rule, first, second, to, through, inside);
     }
 }

@@ -1,0 +1,49 @@
+use Rattle.std.proofs.Common.{◌≡◌, ◌+◌, ◌-◌, ℕ, [], min, length, ap, ◌∙◌, arith}
+use Rattle.memory.specs.Spans.{OfBytes, copied}
+use Rattle.layers.specs.Laid.{laid_sound}
+use Rattle.layers.specs.Queue.{queue, over, queued_copied}
+use Rattle.layers.proofs.Lays.{length_laid}
+use Rattle.layers.proofs.QueueMerges.{queued_merged_some, queued_merged_none, over_queued_merged}
+use Rattle.layers.proofs.queue.WriteQueueMemory.copy.Goals as goal
+use Rattle.layers.proofs.queue.WriteQueueMemory.copy.Goals.{then-through-gt0, else-through-gt0}
+
+abbrev first : ℕ → ℕ → ℕ
+first x y = x
+
+first_fits : OfBytes first
+first_fits x y h h' = h
+
+kept : (g : _) (c : goal.After-merge_each g) → queue (g.M.Memory.bytes c.merge_each.new.self.below) c.merge_each.new.self.pending
+    ≡ queued_copied (queue (g.M.Memory.bytes c.args.self.now.below) c.args.self.now.pending) c.args.from c.args.to c.args.count
+kept g c =
+    let b = g.M.Memory.bytes in
+    let old = queue (b c.args.self.now.below) c.args.self.now.pending in
+    let from = c.args.from in
+    let to = c.args.to in
+    let n = c.min-inside.result in
+    let t = c.through-through.result in
+    let cut : n ≡ min c.args.count (length old.below - to) = omega (arith, length_laid old.below old.entries) in
+    let bytes = (laid_sound old.below old.entries (g.M.Memory.sound c.args.self.now.below)).bytes in
+    c.merge_each.ensures
+    ∙ elim c.if-through-gt0.branch [
+      | then-through-gt0 w ↦
+          let now : queue (b c.if-through-gt0.self.below) c.if-through-gt0.self.pending ≡ queue (copied (over old) from to t) [] =
+          ap (λ x. queue (b x.below) x.pending) w.self-is
+          ∙ ap (queue (b w.copy.new.self)) (ap (λ q. q.entries) w.drain.ensures)
+          ∙ ap (λ m. queue m []) (w.copy.ensures ∙ ap (λ q. copied q.below from to t) w.drain.ensures) in
+          ap (λ q. queued_copied q (from + t) (to + t) (n - t)) now
+          ∙ queued_merged_some first first_fits old from from to c.args.count n t cut c.through-through.ensures.through (omega arith) (c.through-through.ensures.most (omega arith)) bytes
+      | else-through-gt0 w ↦
+          ap (λ x. queued_copied (queue (b x.below) x.pending) (from + t) (to + t) (n - t)) w.self-is
+          ∙ queued_merged_none first first_fits old from from to c.args.count n t cut (omega arith)
+    ]
+
+pub returns-clause-after : goal.returns-clause-after
+returns-clause-after g c =
+    let old = queue (g.M.Memory.bytes c.args.self.now.below) c.args.self.now.pending in
+    ap over (kept g c)
+    ∙ over_queued_merged first first_fits old c.args.from c.args.from c.args.to c.args.count
+    (laid_sound old.below old.entries (g.M.Memory.sound c.args.self.now.below)).bytes
+
+pub returns-clause-kept : goal.returns-clause-kept
+returns-clause-kept g c = kept g c
