@@ -1,5 +1,10 @@
 pub mod Painting
+pub mod Buffers
+pub mod Kept
+pub mod Mirrored
 pub mod Orders
+pub mod Spans
+pub mod Beside
 pub mod Laws
 pub mod Wholes
 pub mod Bytes
@@ -7,3 +12,5 @@ pub mod Totals
 pub mod Pictures
 pub mod Histories
 pub mod Drawn
+pub mod Bursts
+pub mod Sent

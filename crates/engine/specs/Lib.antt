@@ -1,3 +1,5 @@
+pub mod ByteRules
+pub mod Strips
 pub mod Painted
 pub mod Fed
 pub mod Laws

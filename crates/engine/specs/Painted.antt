@@ -1,11 +1,11 @@
 -- What memory is after some pixels of an operation.
-use Rattle.std.specs.Prelude.{ℕ, zero, suc, ◌+◌, List, Some, None, Option}
+use Rattle.std.specs.Prelude.{ℕ, zero, suc, ◌+◌, ◌-◌, ◌*◌, List, Some, None, Option}
 use Rattle.colour.specs.declared.Colour.{Colour}
 use Rattle.colour.specs.declared.Palette.{Palette}
 use Rattle.colour.specs.Formats.{Format}
 use Rattle.window.specs.declared.area.Area.{Area}
 use Rattle.window.specs.Places.{area_of, place}
-use Rattle.window.specs.Values.{stored}
+use Rattle.window.specs.Values.{value_at, stored}
 use Rattle.source.specs.Origins.{Origin, origin_of, sampled}
 use Rattle.rules.specs.Yields.{Yields}
 use Rattle.engine.specs.declared.drawing.Drawing.{Drawing}
@@ -46,3 +46,7 @@ plotted o p sent k m = put_colour o.format.width o.narrow (place o.target o.form
 unfoldable pub painted : (ℕ → List ℕ → List ℕ) → ℕ → ℕ → List ℕ → List ℕ
 painted draw first zero m = m
 painted draw first (suc n) m = draw (first + n) (painted draw first n m)
+
+-- pixel k drawn, where xs holds the values that the host sent, b bytes each, from that of a first pixel on
+abbrev pub sent_drawn : Op → Palette → ℕ → ℕ → List ℕ → ℕ → List ℕ → List ℕ
+sent_drawn o p b first xs k m = plotted o p (value_at xs ((k - first) * b) b) k m

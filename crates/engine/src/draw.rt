@@ -1,8 +1,10 @@
-// Pixels drawn one after another.
-ghost use Rattle.std.specs.Prelude.{◌≡◌, ℕ, ◌+◌, length};
+// A drawing drawn step by step, each of as many pixels as can be drawn at once.
+ghost use Rattle.std.specs.Prelude.{◌≡◌, ℕ, ◌+◌, ◌^◌, ◌<◌, ◌≤◌, IfSome, length};
 ghost use Rattle.refusal.specs.Numbers.{numbered};
 ghost use Rattle.window.specs.Places.{area_of, place};
 ghost use Rattle.window.specs.Values.{stored};
+ghost use Rattle.colour.specs.declared.Palette.{Palette};
+ghost use Rattle.rules.specs.Values.{Agrees};
 ghost use Rattle.engine.specs.Painted.{op_of, yielded, plotted, painted};
 ghost use Rattle.engine.specs.Calls.{allowed, draw_answer, draw_after, DrawsAllowed, Drew};
 ghost use Rattle.engine.specs.History.{RunsOn};
@@ -11,7 +13,7 @@ use crate::drawing::Drawing;
 use colour::{Canvas, Colour, Palette};
 use memory::Memory;
 use refusal::Refusal;
-use rules::PixelRule;
+use rules::{PixelRule, ValueRule};
 use window::PixelSize;
 
 impl<R: PixelRule, D: Canvas> Drawing<R, D> {
@@ -50,8 +52,76 @@ impl<R: PixelRule, D: Canvas> Drawing<R, D> {
         allowance.min(self.target.pixels().saturating_sub(first))
     }
 
-    // Draws so many pixels, or as many as are left, from `first` on, whether the drawing lies inside memory or not.
+    // Draws up to `most` pixels from k on that memory draws by itself, and answers how many.
+    #[tactic(auto, unfolding(crate::specs::Painted::painted))]
+    fn draw_by_memory<M: Memory>(
+        &self,
+        memory: &mut M,
+        known: Option<ValueRule>,
+        k: u32,
+        most: u32,
+    ) -> u32
+        requires { IfSome known (Agrees (R.yields self.now.rule) (D.format self.now.canvas) (D.narrowed self.now.canvas)) }
+        ensures few { result ≤ most }
+        ensures after { (p : Palette) (sent : ℕ) → M.bytes memory.new
+            ≡ painted (plotted (op_of R.yields D.format D.narrowed self.now) p sent) k result
+            (M.bytes memory.old) }
+    {
+        match known {
+            Some(ValueRule::Fill(value)) => self.fill(memory, value, k, most),
+            Some(ValueRule::First) => self.copy(memory, k, most),
+            Some(ValueRule::Raster(rule)) => self.merge(memory, rule, k, most),
+            _ => 0,
+        }
+    }
+
+    // Draws so many pixels from k on, one after another.
     #[tactic(auto, using(crate::proofs::Painting::painted_more), unfolding(crate::specs::Painted::painted))]
+    fn plot_each<M: Memory>(&self, palette: &Palette, memory: &mut M, sent: u32, k: u32, count: u32)
+        requires { k + count < 2 ^ 32 }
+        ensures { M.bytes memory.new
+            ≡ painted (plotted (op_of R.yields D.format D.narrowed self.now) palette.now sent) k count
+            (M.bytes memory.old) }
+    {
+        for pixel in k..k + count {
+            self.plot(palette, memory, sent, pixel);
+        }
+    }
+
+    // Draws pixels from k on, at least one and up to `most`, in as large a step as can be made, and answers how many: by memory
+    // itself, or in strips. Where a pixel takes what one before it wrote, they are drawn one after another to the end of the row.
+    fn step<M: Memory>(
+        &self,
+        palette: &Palette,
+        memory: &mut M,
+        known: Option<ValueRule>,
+        sent: u32,
+        k: u32,
+        most: u32,
+    ) -> u32
+        requires known { IfSome known (Agrees (R.yields self.now.rule) (D.format self.now.canvas) (D.narrowed self.now.canvas)) }
+        requires own { k + most < 2 ^ 32 }
+        requires some { 1 ≤ most }
+        ensures some { 1 ≤ result }
+        ensures few { result ≤ most }
+        ensures after { M.bytes memory.new
+            ≡ painted (plotted (op_of R.yields D.format D.narrowed self.now) palette.now sent) k result
+            (M.bytes memory.old) }
+    {
+        let drawn = self.draw_by_memory(memory, known, k, most);
+        if drawn > 0 {
+            return drawn;
+        }
+        let drawn = self.draw_strips(palette, memory, known, sent, k, most);
+        if drawn > 0 {
+            return drawn;
+        }
+        let rest = self.target.rest_of_row(k).min(most);
+        self.plot_each(palette, memory, sent, k, rest);
+        rest
+    }
+
+    // Draws so many pixels, or as many as are left, from `first` on, whether the drawing lies inside memory or not.
     pub(crate) fn paint<M: Memory>(
         &self,
         palette: &Palette,
@@ -66,8 +136,17 @@ impl<R: PixelRule, D: Canvas> Drawing<R, D> {
             (M.bytes memory.old) }
     {
         let count = self.allowed(first, allowance);
-        for k in first..first + count {
-            self.plot(palette, memory, sent, k);
+        if count == 1 {
+            self.plot(palette, memory, sent, first);
+            return count;
+        }
+        let known = self.rule.on_values(&self.canvas);
+        let mut k = first;
+        let mut left = count;
+        while left > 0 {
+            let drawn = self.step(palette, memory, known, sent, k, left);
+            k += drawn;
+            left -= drawn;
         }
         count
     }

@@ -1,6 +1,7 @@
 // Bytes from the host.
-ghost use Rattle.std.specs.Prelude.{◌≡◌, ℕ, ◌+◌, ◌-◌, ◌<◌, ◌≤◌, Bool, true, false, List, [], ◌∷◌, ◌++◌, length, Some, None, nat_lt};
+ghost use Rattle.std.specs.Prelude.{◌≡◌, ℕ, ◌+◌, ◌-◌, ◌<◌, ◌≤◌, Bool, true, false, List, [], ◌∷◌, ◌++◌, length, Some, None, nat_lt, take, IfSome};
 ghost use Rattle.refusal.specs.Numbers.{numbered};
+ghost use Rattle.rules.specs.Values.{Agrees};
 ghost use Rattle.engine.specs.Painted.{op_of};
 ghost use Rattle.engine.specs.Fed.{waits, number, stage, takes, come, Feed};
 ghost use Rattle.engine.specs.Calls.{feed_answer, feed_after, FeedsCounted, FedOnly};
@@ -9,11 +10,13 @@ ghost use Rattle.engine.specs.Totals.{TakesInAll, TakesAwaited};
 ghost use Rattle.engine.specs.History.{GoesOn};
 
 use crate::drawing::{Drawing, Progress};
+use crate::strips::Values;
 use crate::waiting::Waiting;
 use colour::{Canvas, Palette};
 use memory::Memory;
 use refusal::Refusal;
-use rules::PixelRule;
+use rules::{PixelRule, ValueRule};
+use source::Source;
 
 impl Waiting {
     // The bytes with one more, or none where that makes a whole.
@@ -71,9 +74,53 @@ impl<R: PixelRule, D: Canvas> Drawing<R, D> {
         }
     }
 
-    // Takes bytes until they end or the drawing does, whether it lies inside memory or not. `PaletteLoad::feed` has the same
-    // loop: one function of two closures was proved for both, but it took a hundred lines of contract and proof and spared
-    // forty, and it asked of its caller that they may be called.
+    // What the rule does on values, where the host sends them for pixels. Nowhere else is it asked.
+    fn on_sent(&self) -> Option<ValueRule>
+        ensures { IfSome result (Agrees (R.yields self.now.rule) (D.format self.now.canvas) (D.narrowed self.now.canvas)) }
+    {
+        let Source::Host(_) = self.first else {
+            return None;
+        };
+        self.rule.on_values(&self.canvas)
+    }
+
+    // Takes the bytes of whole pixels, as many as can be drawn together, and answers how many bytes: none where bytes wait, where
+    // the host does not send pixels, where fewer bytes than a pixel's are there, or where the pixels are not drawn together.
+    fn take_pixels<M: Memory>(
+        &self,
+        palette: &Palette,
+        memory: &mut M,
+        progress: &mut Progress,
+        known: Option<ValueRule>,
+        sent: &[u8],
+    ) -> usize
+        requires { IfSome known (Agrees (R.yields self.now.rule) (D.format self.now.canvas) (D.narrowed self.now.canvas)) }
+        ensures { Feed (op_of R.yields D.format D.narrowed self.now) palette.now
+            (stage (M.bytes memory.old) progress.old) (take result sent.now) (stage (M.bytes memory.new) progress.new)
+            result (progress.new.drawn - progress.old.drawn) }
+    {
+        let Source::Host(size) = self.first else {
+            return 0;
+        };
+        let Waiting::None = progress.waiting else {
+            return 0;
+        };
+        let width = size.bytes() as usize;
+        if sent.len() < width {
+            return 0;
+        }
+        let k = progress.drawn;
+        let left = self.target.pixels().saturating_sub(k);
+        let most = left.min(self.target.beside(k));
+        let count = (sent.len() / width).min(most as usize) as u32;
+        let values = Values::new(sent, width);
+        let drawn = self.draw_sent(palette, memory, known, values, k, count);
+        progress.drawn += drawn;
+        drawn as usize * width
+    }
+
+    // Takes bytes until they end or the drawing does, whether it lies inside memory or not: those of whole pixels together where that
+    // can be, and every other by itself.
     fn take<M: Memory>(
         &self,
         palette: &Palette,
@@ -86,13 +133,18 @@ impl<R: PixelRule, D: Canvas> Drawing<R, D> {
             result.0 result.1 }
     {
         let before = progress.drawn;
-        for (taken, byte) in sent.iter().enumerate() {
-            if !self.takes(progress.drawn) {
-                return (taken, progress.drawn - before);
+        let known = self.on_sent();
+        let mut taken = 0;
+        while taken < sent.len() && self.takes(progress.drawn) {
+            let whole = self.take_pixels(palette, memory, progress, known, &sent[taken..]);
+            if whole == 0 {
+                self.accept(palette, memory, progress, sent[taken]);
+                taken += 1;
+            } else {
+                taken += whole;
             }
-            self.accept(palette, memory, progress, *byte);
         }
-        (sent.len(), progress.drawn - before)
+        (taken, progress.drawn - before)
     }
 
     /// Takes bytes until they end or the drawing does. Answers the bytes taken and the pixels drawn. Declined with `PastMemory`, and
