@@ -13,4 +13,6 @@ mod levels;
 #[cfg(test)]
 mod maker;
 #[cfg(test)]
+mod overlaps;
+#[cfg(test)]
 mod rasters;

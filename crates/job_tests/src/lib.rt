@@ -4,6 +4,8 @@
 #[cfg(test)]
 mod begun;
 #[cfg(test)]
+mod boards;
+#[cfg(test)]
 mod grounds;
 #[cfg(test)]
 mod layered;
@@ -11,3 +13,7 @@ mod layered;
 mod numbered;
 #[cfg(test)]
 mod pictures;
+#[cfg(test)]
+mod plain;
+#[cfg(test)]
+mod together;
