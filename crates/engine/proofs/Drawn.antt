@@ -15,32 +15,15 @@ use Rattle.window.specs.Geometry.{BytePast}
 use Rattle.std.proofs.lemmas.Bool.Decides.{when_true, when_false}
 use Rattle.engine.specs.Inside.{lies_inside, OpByte, Covered, Inside}
 use Rattle.engine.proofs.Bytes.{drawing_exactly}
-use Rattle.engine.specs.Calls.{allowed, draw_answer, draw_after, DrawsAllowed, Drew, feed_answer, feed_after, FeedsCounted, FedOnly}
+use Rattle.engine.specs.Calls.{allowed}
+use Rattle.engine.specs.Accepted.{DrewInside, FedInside}
 use Rattle.feeding.proofs.Feeding.{in_parts}
 use Rattle.engine.specs.Laws.{FeedsInParts, WholesHold}
-use Rattle.engine.specs.Totals.{TakesInAll, TakesAwaited}
-use Rattle.engine.specs.History.{RunsOn, GoesOn}
+use Rattle.engine.specs.Totals.{TakesInAll}
 use Rattle.engine.proofs.Laws.{painted_holds, painted_only, feed_only, fed_grew}
 use Rattle.engine.proofs.Wholes.{wholes_hold}
 use Rattle.engine.proofs.Totals.{takes_in_all}
 use Rattle.engine.proofs.Histories.{Lies, drawing_lies, drawing_reach, runs_on, goes_on, takes_rest}
-
--- what draws pixels of an operation that lies inside memory
-pub record DrewSo (o : Op) (p : Palette) (sent first n count : ℕ) (m left : List ℕ) : Type 0 where
-  pub answer : Ok count ≡ draw_answer o m first n
-  pub after : left ≡ draw_after o p sent first n m
-  pub accepts : DrawsAllowed o (length m) first n (Ok count)
-  pub drew : Drew o p sent first (Ok count) m left
-  pub history : RunsOn o p first (Ok count) m left
-
--- and what feeds it
-pub record FedSo (o : Op) (p : Palette) (s : Stage) (xs : List ℕ) (r : ℕ × ℕ) (t : Stage) : Type 0 where
-  pub answer : Ok r ≡ feed_answer o p s xs
-  pub after : t ≡ feed_after o p s xs
-  pub counts : FeedsCounted o s (Ok r) t
-  pub only : FedOnly o s (Ok r) t.memory
-  pub rest : TakesAwaited o s xs (Ok r) t
-  pub history : GoesOn o p s xs (Ok r) t
 
 module _ {R D : Type 0} (yields : R → Yields) (format : D → Format) (narrow : D → Colour → ℕ) (d : Drawing R D) (p : Palette) where
   abbrev pub o : Op
@@ -78,7 +61,7 @@ module _ {R D : Type 0} (yields : R → Yields) (format : D → Format) (narrow 
     here = ap (lies_inside o) (sym size_is) ∙ sym tested
 
     pub drew_so : (sent first n count : ℕ) (after : List ℕ) → count ≡ allowed o first n → after ≡ painted (plotted o p sent) first count m
-        → DrewSo o p sent first n count m after
+        → DrewInside o p sent first n count m after
     drew_so sent first n count after count_is is =
         let l = limits_of d.target in
         let few : count ≤ pixels o.target - first = omega (arith, count_is) in
@@ -90,7 +73,7 @@ module _ {R D : Type 0} (yields : R → Yields) (format : D → Format) (narrow 
           history = λ z start come waiting r. rw is (runs_on o p lies start z come waiting sent first count m sound fits few r);
         }
 
-    pub fed_so : (s t : Stage) → s.memory ≡ m → (xs : List ℕ) (taken drawn : ℕ) → Feed o p s xs t taken drawn → FedSo o p s xs (taken, drawn) t
+    pub fed_so : (s t : Stage) → s.memory ≡ m → (xs : List ℕ) (taken drawn : ℕ) → Feed o p s xs t taken drawn → FedInside o p s xs (taken, drawn) t
     fed_so s t at xs taken drawn f =
         let inside : lies_inside o (length s.memory) ≡ true = ap (λ x. lies_inside o (length x)) at ∙ here in
         let drawn_is : drawn ≡ (fed o p s xs).drawn - s.drawn = f.drawn_is ∙ ap (λ x. x.drawn - s.drawn) f.after in

@@ -7,3 +7,5 @@ pub mod Inside
 pub mod Totals
 pub mod History
 pub mod Calls
+pub mod Accepted
+pub mod Side

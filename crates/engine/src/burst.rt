@@ -3,6 +3,7 @@ ghost use Rattle.std.specs.Prelude.{◌≡◌, ℕ, ◌*◌, ◌≤◌, true, So
 ghost use Rattle.window.specs.Places.{area_of, place};
 ghost use Rattle.window.specs.Geometry.{SideBySide};
 ghost use Rattle.source.specs.Origins.{origin_of, host};
+ghost use Rattle.source.specs.Strips.{Ahead};
 ghost use Rattle.rules.specs.Values.{Agrees};
 ghost use Rattle.rules.specs.declared.values.ValueRule.TheVariants.{First};
 ghost use Rattle.engine.specs.Painted.{op_of, sent_drawn, painted};
@@ -26,6 +27,23 @@ fn is_first(known: Option<ValueRule>) -> bool
 }
 
 impl<R: PixelRule, D: Canvas> Drawing<R, D> {
+    // How many pixels from k on, which begins at `at`, are drawn together: up to `most`, or those of the row where of so many one might
+    // take a byte of the second source that one before it wrote; none where it might even so.
+    fn ahead_of(&self, k: u32, most: u32, at: u32) -> u32
+        ensures few { result ≤ most }
+        ensures ahead { Ahead (origin_of self.now.second) k result at (D.format self.now.canvas).width }
+    {
+        let bytes = self.canvas.bytes_per_pixel();
+        if self.second.keeps_ahead(k, most, at as u64, bytes) {
+            return most;
+        }
+        let row = most.min(self.target.rest_of_row(k));
+        if row < most && self.second.keeps_ahead(k, row, at as u64, bytes) {
+            return row;
+        }
+        0
+    }
+
     // Draws pixels from k on, which begins at `at`, by what the rule makes of the values, up to `most`, and answers how many: none
     // where the host sends for the second source too, or where a pixel might take a byte that one before it wrote.
     #[tactic(auto, unfolding(crate::specs::Painted::painted))]
@@ -54,12 +72,12 @@ impl<R: PixelRule, D: Canvas> Drawing<R, D> {
         if self.second.awaited() > 0 {
             return 0;
         }
-        let mut bytes = [0; ROOM];
-        let fitting = most.min((ROOM / size.bytes() as usize) as u32);
-        let count = self.second.values(memory, 0, k, fitting, &mut bytes);
-        if !self.second.keeps_ahead(k, count, at as u64, size.bytes()) {
+        let most = self.ahead_of(k, most.min((ROOM / size.bytes() as usize) as u32), at);
+        if most == 0 {
             return 0;
         }
+        let mut bytes = [0; ROOM];
+        let count = self.second.values(memory, 0, k, most, &mut bytes);
         let second = Values::new(&bytes, self.second.value_bytes() as usize);
         let mut target = [0; ROOM];
         self.draw_at(

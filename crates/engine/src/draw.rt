@@ -1,20 +1,26 @@
 // A drawing drawn step by step, each of as many pixels as can be drawn at once.
-ghost use Rattle.std.specs.Prelude.{◌≡◌, ℕ, ◌+◌, ◌^◌, ◌<◌, ◌≤◌, IfSome, length};
+ghost use Rattle.std.specs.Prelude.{◌≡◌, ℕ, ◌+◌, ◌^◌, ◌<◌, ◌≤◌, true, IfSome, length};
 ghost use Rattle.refusal.specs.Numbers.{numbered};
 ghost use Rattle.window.specs.Places.{area_of, place};
 ghost use Rattle.window.specs.Values.{stored};
 ghost use Rattle.colour.specs.declared.Palette.{Palette};
 ghost use Rattle.rules.specs.Values.{Agrees};
 ghost use Rattle.engine.specs.Painted.{op_of, yielded, plotted, painted};
+ghost use Rattle.engine.specs.Inside.{lies_inside};
 ghost use Rattle.engine.specs.Calls.{allowed, draw_answer, draw_after, DrawsAllowed, Drew};
+ghost use Rattle.engine.specs.Accepted.{DrewInside};
 ghost use Rattle.engine.specs.History.{RunsOn};
 
 use crate::drawing::Drawing;
+use crate::together::{FEW, NARROW};
 use colour::{Canvas, Colour, Palette};
 use memory::Memory;
 use refusal::Refusal;
 use rules::{PixelRule, ValueRule};
 use window::PixelSize;
+
+// Rows of fewer pixels than this are not each tried for a strip.
+const SHORT: u32 = 32;
 
 impl<R: PixelRule, D: Canvas> Drawing<R, D> {
     // What the rule yields for pixel k, where the host sent a number.
@@ -77,6 +83,7 @@ impl<R: PixelRule, D: Canvas> Drawing<R, D> {
 
     // Draws so many pixels from k on, one after another.
     #[tactic(auto, using(crate::proofs::Painting::painted_more), unfolding(crate::specs::Painted::painted))]
+    #[inline(always)]
     fn plot_each<M: Memory>(&self, palette: &Palette, memory: &mut M, sent: u32, k: u32, count: u32)
         requires { k + count < 2 ^ 32 }
         ensures { M.bytes memory.new
@@ -88,8 +95,24 @@ impl<R: PixelRule, D: Canvas> Drawing<R, D> {
         }
     }
 
+    // How many pixels from k on, up to `most`, are drawn one after another where they make no strip: those of the row, or all where
+    // rows are narrow, or short and a strip would have been long enough, since then there is none in the next row either.
+    fn without_strip(&self, k: u32, most: u32) -> u32
+        requires { 1 ≤ most }
+        ensures some { 1 ≤ result }
+        ensures few { result ≤ most }
+    {
+        let width = u32::from(self.target.width());
+        let rest = self.target.rest_of_row(k);
+        if width < NARROW || width < SHORT && NARROW <= rest {
+            return most;
+        }
+        rest.min(most)
+    }
+
     // Draws pixels from k on, at least one and up to `most`, in as large a step as can be made, and answers how many: by memory
-    // itself, or in strips. Where a pixel takes what one before it wrote, they are drawn one after another to the end of the row.
+    // itself, or in strips. Where a pixel takes what one before it wrote, they are drawn one after another to the end of the row, and
+    // where a row is narrow, to the last.
     fn step<M: Memory>(
         &self,
         palette: &Palette,
@@ -116,12 +139,37 @@ impl<R: PixelRule, D: Canvas> Drawing<R, D> {
         if drawn > 0 {
             return drawn;
         }
-        let rest = self.target.rest_of_row(k).min(most);
+        let rest = self.without_strip(k, most);
         self.plot_each(palette, memory, sent, k, rest);
         rest
     }
 
+    // Draws so many pixels from `first` on in as large steps as can be made.
+    fn paint_together<M: Memory>(
+        &self,
+        palette: &Palette,
+        memory: &mut M,
+        sent: u32,
+        first: u32,
+        count: u32,
+    )
+        requires { first + count < 2 ^ 32 }
+        ensures { M.bytes memory.new
+            ≡ painted (plotted (op_of R.yields D.format D.narrowed self.now) palette.now sent) first count
+            (M.bytes memory.old) }
+    {
+        let known = self.rule.on_values(&self.canvas);
+        let mut k = first;
+        let mut left = count;
+        while left > 0 {
+            let drawn = self.step(palette, memory, known, sent, k, left);
+            k += drawn;
+            left -= drawn;
+        }
+    }
+
     // Draws so many pixels, or as many as are left, from `first` on, whether the drawing lies inside memory or not.
+    #[inline(always)]
     pub(crate) fn paint<M: Memory>(
         &self,
         palette: &Palette,
@@ -136,19 +184,33 @@ impl<R: PixelRule, D: Canvas> Drawing<R, D> {
             (M.bytes memory.old) }
     {
         let count = self.allowed(first, allowance);
-        if count == 1 {
-            self.plot(palette, memory, sent, first);
-            return count;
-        }
-        let known = self.rule.on_values(&self.canvas);
-        let mut k = first;
-        let mut left = count;
-        while left > 0 {
-            let drawn = self.step(palette, memory, known, sent, k, left);
-            k += drawn;
-            left -= drawn;
+        if count < FEW {
+            self.plot_each(palette, memory, sent, first, count);
+        } else {
+            self.paint_together(palette, memory, sent, first, count);
         }
         count
+    }
+
+    /// [`Drawing::draw`] where the drawing is known to lie inside memory, without the test. Elsewhere what lies past memory reads as 0,
+    /// and nothing is put there.
+    pub fn draw_inside<M: Memory>(
+        &self,
+        palette: &Palette,
+        memory: &mut M,
+        sent: u32,
+        first: u32,
+        allowance: u32,
+    ) -> u32
+        ensures count { result ≡ allowed (op_of R.yields D.format D.narrowed self.now) first allowance }
+        ensures after { M.bytes memory.new
+            ≡ painted (plotted (op_of R.yields D.format D.narrowed self.now) palette.now sent) first result
+            (M.bytes memory.old) }
+        ensures inside { lies_inside (op_of R.yields D.format D.narrowed self.now) (length (M.bytes memory.old)) ≡ true
+            → DrewInside (op_of R.yields D.format D.narrowed self.now) palette.now sent first allowance result
+            (M.bytes memory.old) (M.bytes memory.new) }
+    {
+        self.paint(palette, memory, sent, first, allowance)
     }
 
     /// Draws `allowance` pixels, or as many as are left, from pixel `first` on, and answers how many that were. `sent` is the number
@@ -179,6 +241,6 @@ impl<R: PixelRule, D: Canvas> Drawing<R, D> {
         if !self.lies_inside(memory.size()) {
             return Err(Refusal::PastMemory);
         }
-        Ok(self.paint(palette, memory, sent, first, allowance))
+        Ok(self.draw_inside(palette, memory, sent, first, allowance))
     }
 }

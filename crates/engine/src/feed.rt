@@ -4,7 +4,9 @@ ghost use Rattle.refusal.specs.Numbers.{numbered};
 ghost use Rattle.rules.specs.Values.{Agrees};
 ghost use Rattle.engine.specs.Painted.{op_of};
 ghost use Rattle.engine.specs.Fed.{waits, number, stage, takes, come, Feed};
+ghost use Rattle.engine.specs.Inside.{lies_inside};
 ghost use Rattle.engine.specs.Calls.{feed_answer, feed_after, FeedsCounted, FedOnly};
+ghost use Rattle.engine.specs.Accepted.{FedInside};
 ghost use Rattle.engine.specs.Laws.{FeedsInParts, WholesHold};
 ghost use Rattle.engine.specs.Totals.{TakesInAll, TakesAwaited};
 ghost use Rattle.engine.specs.History.{GoesOn};
@@ -17,6 +19,9 @@ use memory::Memory;
 use refusal::Refusal;
 use rules::{PixelRule, ValueRule};
 use source::Source;
+
+// Where fewer pixels than this have come, each byte is taken by itself, which then costs less.
+const FEW: usize = 2;
 
 impl Waiting {
     // The bytes with one more, or none where that makes a whole.
@@ -74,24 +79,23 @@ impl<R: PixelRule, D: Canvas> Drawing<R, D> {
         }
     }
 
-    // What the rule does on values, where the host sends them for pixels. Nowhere else is it asked.
-    fn on_sent(&self) -> Option<ValueRule>
-        ensures { IfSome result (Agrees (R.yields self.now.rule) (D.format self.now.canvas) (D.narrowed self.now.canvas)) }
-    {
-        let Source::Host(_) = self.first else {
-            return None;
+    // Whether the host sends pixels, and so many bytes hold enough of them that they may be drawn together.
+    fn sends_pixels(&self, bytes: usize) -> bool {
+        let Source::Host(size) = self.first else {
+            return false;
         };
-        self.rule.on_values(&self.canvas)
+        bytes >= FEW * size.bytes() as usize
     }
 
-    // Takes the bytes of whole pixels, as many as can be drawn together, and answers how many bytes: none where bytes wait, where
-    // the host does not send pixels, where fewer bytes than a pixel's are there, or where the pixels are not drawn together.
+    // Takes the bytes of whole pixels, as many as can be drawn together, and answers how many bytes: none where it was found that they
+    // cannot, where bytes wait, where the host does not send pixels, where the bytes of fewer than `FEW` are there, or where the pixels are not drawn together.
     fn take_pixels<M: Memory>(
         &self,
         palette: &Palette,
         memory: &mut M,
         progress: &mut Progress,
         known: Option<ValueRule>,
+        together: bool,
         sent: &[u8],
     ) -> usize
         requires { IfSome known (Agrees (R.yields self.now.rule) (D.format self.now.canvas) (D.narrowed self.now.canvas)) }
@@ -99,6 +103,9 @@ impl<R: PixelRule, D: Canvas> Drawing<R, D> {
             (stage (M.bytes memory.old) progress.old) (take result sent.now) (stage (M.bytes memory.new) progress.new)
             result (progress.new.drawn - progress.old.drawn) }
     {
+        if !together {
+            return 0;
+        }
         let Source::Host(size) = self.first else {
             return 0;
         };
@@ -106,7 +113,7 @@ impl<R: PixelRule, D: Canvas> Drawing<R, D> {
             return 0;
         };
         let width = size.bytes() as usize;
-        if sent.len() < width {
+        if sent.len() < FEW * width {
             return 0;
         }
         let k = progress.drawn;
@@ -119,9 +126,8 @@ impl<R: PixelRule, D: Canvas> Drawing<R, D> {
         drawn as usize * width
     }
 
-    // Takes bytes until they end or the drawing does, whether it lies inside memory or not: those of whole pixels together where that
-    // can be, and every other by itself.
-    fn take<M: Memory>(
+    // Takes bytes one after another until they end or the drawing does, whether it lies inside memory or not.
+    fn take_each<M: Memory>(
         &self,
         palette: &Palette,
         memory: &mut M,
@@ -133,11 +139,42 @@ impl<R: PixelRule, D: Canvas> Drawing<R, D> {
             result.0 result.1 }
     {
         let before = progress.drawn;
-        let known = self.on_sent();
+        for (taken, byte) in sent.iter().enumerate() {
+            if !self.takes(progress.drawn) {
+                return (taken, progress.drawn - before);
+            }
+            self.accept(palette, memory, progress, *byte);
+        }
+        (sent.len(), progress.drawn - before)
+    }
+
+    // The same, but the bytes of whole pixels together where that can be. Once they could not be, no more of the burst are tried.
+    fn take_together<M: Memory>(
+        &self,
+        palette: &Palette,
+        memory: &mut M,
+        progress: &mut Progress,
+        sent: &[u8],
+    ) -> (usize, u32)
+        ensures { Feed (op_of R.yields D.format D.narrowed self.now) palette.now
+            (stage (M.bytes memory.old) progress.old) sent.now (stage (M.bytes memory.new) progress.new)
+            result.0 result.1 }
+    {
+        let before = progress.drawn;
+        let known = self.rule.on_values(&self.canvas);
+        let mut together = true;
         let mut taken = 0;
         while taken < sent.len() && self.takes(progress.drawn) {
-            let whole = self.take_pixels(palette, memory, progress, known, &sent[taken..]);
+            let whole = self.take_pixels(
+                palette,
+                memory,
+                progress,
+                known,
+                together,
+                &sent[taken..],
+            );
             if whole == 0 {
+                together = together && !matches!(progress.waiting, Waiting::None);
                 self.accept(palette, memory, progress, sent[taken]);
                 taken += 1;
             } else {
@@ -145,6 +182,47 @@ impl<R: PixelRule, D: Canvas> Drawing<R, D> {
             }
         }
         (taken, progress.drawn - before)
+    }
+
+    // Takes bytes until they end or the drawing does, whether it lies inside memory or not.
+    fn take<M: Memory>(
+        &self,
+        palette: &Palette,
+        memory: &mut M,
+        progress: &mut Progress,
+        sent: &[u8],
+    ) -> (usize, u32)
+        ensures { Feed (op_of R.yields D.format D.narrowed self.now) palette.now
+            (stage (M.bytes memory.old) progress.old) sent.now (stage (M.bytes memory.new) progress.new)
+            result.0 result.1 }
+    {
+        if self.sends_pixels(sent.len()) {
+            self.take_together(palette, memory, progress, sent)
+        } else {
+            self.take_each(palette, memory, progress, sent)
+        }
+    }
+
+    /// [`Drawing::feed`] where the drawing is known to lie inside memory, without the test. Elsewhere what lies past memory reads as 0,
+    /// and nothing is put there.
+    pub fn feed_inside<M: Memory>(
+        &self,
+        palette: &Palette,
+        memory: &mut M,
+        progress: &mut Progress,
+        sent: &[u8],
+    ) -> (usize, u32)
+        ensures fed { Feed (op_of R.yields D.format D.narrowed self.now) palette.now
+            (stage (M.bytes memory.old) progress.old) sent.now (stage (M.bytes memory.new) progress.new)
+            result.0 result.1 }
+        ensures parts { FeedsInParts (op_of R.yields D.format D.narrowed self.now) palette.now }
+        ensures wholes { WholesHold (op_of R.yields D.format D.narrowed self.now) palette.now }
+        ensures in_all { TakesInAll (op_of R.yields D.format D.narrowed self.now) palette.now }
+        ensures inside { lies_inside (op_of R.yields D.format D.narrowed self.now) (length (M.bytes memory.old)) ≡ true
+            → FedInside (op_of R.yields D.format D.narrowed self.now) palette.now
+            (stage (M.bytes memory.old) progress.old) sent.now result (stage (M.bytes memory.new) progress.new) }
+    {
+        self.take(palette, memory, progress, sent)
     }
 
     /// Takes bytes until they end or the drawing does. Answers the bytes taken and the pixels drawn. Declined with `PastMemory`, and
@@ -180,6 +258,6 @@ impl<R: PixelRule, D: Canvas> Drawing<R, D> {
         if !self.lies_inside(memory.size()) {
             return Err(Refusal::PastMemory);
         }
-        Ok(self.take(palette, memory, progress, sent))
+        Ok(self.feed_inside(palette, memory, progress, sent))
     }
 }

@@ -1,10 +1,13 @@
 // Pixels side by side that are drawn together: their values go into buffers, the rule works on those, and what comes is stored at once.
-ghost use Rattle.std.specs.Prelude.{◌≡◌, ℕ, ◌+◌, ◌*◌, ◌^◌, ◌<◌, ◌≤◌, IfSome, length};
+ghost use Rattle.std.specs.Prelude.{◌≡◌, ℕ, ◌+◌, ◌*◌, ◌^◌, ◌<◌, ◌≤◌, true, IfSome, length};
 ghost use Rattle.std.specs.Option.{option_map};
 ghost use Rattle.memory.specs.Spans.{span, overlaid};
 ghost use Rattle.rules.specs.Values.{Agrees};
 ghost use Rattle.engine.specs.Painted.{op_of, plotted, painted};
+ghost use Rattle.source.specs.Origins.{origin_of};
+ghost use Rattle.source.specs.Strips.{Ahead};
 ghost use Rattle.engine.specs.Strips.{stripped, made};
+ghost use Rattle.engine.specs.Side.{IsStrip};
 
 use crate::drawing::Drawing;
 use crate::known::{draw_known, is_alike};
@@ -20,7 +23,17 @@ use window::PixelSize;
 const ROOM: usize = 1024;
 
 // Fewer pixels than this are not drawn together, since the buffers have to be made ready first.
-const FEW: u32 = 4;
+pub(crate) const FEW: u32 = 8;
+
+// Fewer pixels than this side by side make no strip.
+pub(crate) const NARROW: u32 = 4;
+
+// Pixels side by side: where the first of them begins in memory, and how many they are.
+#[derive(Clone, Copy)]
+pub(crate) struct Strip {
+    at: u32,
+    count: u32,
+}
 
 // The values of both sources, and the pixels that come of them.
 #[derive(Drop)]
@@ -105,8 +118,40 @@ impl<R: PixelRule, D: Canvas> Drawing<R, D> {
         memory.store(at, target);
     }
 
-    // Draws pixels from k on together, up to `most`, and answers how many: none where one of them might take a byte that another
-    // wrote, or where memory can have no such address.
+    // Whether none of so many pixels from k on takes a byte that one before it wrote, where they begin at `at`.
+    fn keeps_ahead(&self, k: u32, count: u32, at: u32) -> bool
+        ensures first { result ≡ true → Ahead (origin_of self.now.first) k count at (D.format self.now.canvas).width }
+        ensures second { result ≡ true → Ahead (origin_of self.now.second) k count at (D.format self.now.canvas).width }
+    {
+        let bytes = self.canvas.bytes_per_pixel();
+        self.first.keeps_ahead(k, count, at as u64, bytes)
+            && self.second.keeps_ahead(k, count, at as u64, bytes)
+    }
+
+    // The strip that begins with pixel k and has up to `most`: as many as lie side by side and fit into a buffer, or those of the row
+    // where of so many one might take a byte that another wrote. None where one of the row might too, where they are fewer than
+    // `NARROW`, or where memory can have no such address.
+    fn strip(&self, k: u32, most: u32) -> Option<Strip>
+        ensures { IfSome result (λ s. IsStrip (op_of R.yields D.format D.narrowed self.now) k most s.at s.count) }
+    {
+        let size = PixelSize::of(&self.canvas);
+        let room = (ROOM / size.bytes() as usize) as u32;
+        let most = most.min(room).min(self.target.beside(k));
+        if most < NARROW {
+            return None;
+        }
+        let at = address_of(&self.target, size, k)?;
+        if self.keeps_ahead(k, most, at) {
+            return Some(Strip { at, count: most });
+        }
+        let count = most.min(self.target.rest_of_row(k));
+        if NARROW <= count && count < most && self.keeps_ahead(k, count, at) {
+            return Some(Strip { at, count });
+        }
+        None
+    }
+
+    // Draws a strip that begins with pixel k, of up to `most`, and answers how many pixels it has; none where there is no strip.
     #[tactic(auto, unfolding(crate::specs::Painted::painted))]
     fn draw_strip<M: Memory>(
         &self,
@@ -124,24 +169,15 @@ impl<R: PixelRule, D: Canvas> Drawing<R, D> {
             ≡ painted (plotted (op_of R.yields D.format D.narrowed self.now) palette.now sent) k result
             (M.bytes memory.old) }
     {
-        let size = PixelSize::of(&self.canvas);
-        let width = size.bytes() as usize;
-        let Some(at) = address_of(&self.target, size, k) else {
+        let Some(strip) = self.strip(k, most) else {
             return 0;
         };
-        let fitting = most.min((ROOM / width) as u32).min(self.target.beside(k));
         let given = self
             .first
-            .values(memory, sent, k, fitting, &mut buffers.first);
+            .values(memory, sent, k, strip.count, &mut buffers.first);
         let count = self
             .second
             .values(memory, sent, k, given, &mut buffers.second);
-        if !self.first.keeps_ahead(k, count, at as u64, size.bytes()) {
-            return 0;
-        }
-        if !self.second.keeps_ahead(k, count, at as u64, size.bytes()) {
-            return 0;
-        }
         let first = Values::new(&buffers.first, self.first.value_bytes() as usize);
         let second = Values::new(&buffers.second, self.second.value_bytes() as usize);
         let target = &mut buffers.target[..];
@@ -152,7 +188,7 @@ impl<R: PixelRule, D: Canvas> Drawing<R, D> {
             first,
             second,
             target,
-            at,
+            strip.at,
             count as usize,
         );
         count
@@ -176,7 +212,7 @@ impl<R: PixelRule, D: Canvas> Drawing<R, D> {
             ≡ painted (plotted (op_of R.yields D.format D.narrowed self.now) palette.now sent) k result
             (M.bytes memory.old) }
     {
-        if most < FEW {
+        if most < FEW || self.strip(k, most).is_none() {
             return 0;
         }
         let mut buffers = Buffers::new();

@@ -89,16 +89,23 @@ module _ (s : Settings) (size : ℕ) where
   pub steps_are : (o : Operation) → Decodes s.operation (Ok o) → plan_tested s size (code_of o) ≡ outcome (grounds s size) (plan_at s)
   steps_are o d = steps_end o ∙ ap (ended true) d.code ∙ ap (λ b. ended b s.operation) (known o _ d.is)
 
+-- what was accepted has passed its test
+pub accepted : {A : Type 0} (b : Bool) (a x : A) → ◌≡◌ {A = Result A ℕ} (Ok x) (or_7 b a) → (b ≡ true) × (x ≡ a)
+accepted b a x e = grind arith
+
 pub cleared_none : {A : Type 0} (o : Option ℕ) (x y : A) → ◌≡◌ {A = Result A ℕ} (Ok x) (outcome o y) → (o ≡ None) × (x ≡ y)
 cleared_none o x y e = grind arith
 
 -- where no test fails, the last two pass
-last_passed : (t3 t4 t5 t6 t7 t8 : Bool) → lowest t3 t4 t5 t6 t7 t8 ≡ None → (t7 ≡ true) × (t8 ≡ true)
-last_passed t3 t4 t5 t6 t7 t8 e = grind arith
+last_two : (t3 t4 t5 t6 t7 t8 : Bool) → lowest t3 t4 t5 t6 t7 t8 ≡ None → (t7 ≡ true) × (t8 ≡ true)
+last_two t3 t4 t5 t6 t7 t8 e = grind arith
+
+pub last_passed : (t3 t4 t5 t6 t7 t8 : Bool) → lowest t3 t4 t5 t6 t7 t8 ≡ None → t8 ≡ true
+last_passed t3 t4 t5 t6 t7 t8 e = (last_two t3 t4 t5 t6 t7 t8 e).1
 
 module _ (s : Settings) (size : ℕ) (none : grounds s size ≡ None) where
   last : (all_limited s s.operation ≡ true) × (inside (plan_at s) size ≡ true)
-  last = search last_passed
+  last = search last_two
 
   pub limited_none : all_limited s s.operation ≡ true
   limited_none = last.0

@@ -14,7 +14,7 @@ use Rattle.engine.proofs.Laws.{fed_grew}
 use Rattle.job.specs.Works.{Work, Keeps, Story, stage_of, at_stage, left, serves, awaits, runs, feed_answer, feed_after, fed_stage, run_answer, run_after, run_stage, rectangle, FeedsAwaited, RunsAllowed}
 
 module _ (w : Work) (m : List ℕ) (k : Keeps w) (size : w.size ≤ length m) where
-  inside : lies_inside (op_at w.plan) (length m) ≡ true
+  pub inside : lies_inside (op_at w.plan) (length m) ≡ true
   inside = inside_larger (op_at w.plan) w.size (length m) size k.inside
 
   served : serves w m ≡ true
@@ -32,9 +32,6 @@ module _ (w : Work) (m : List ℕ) (k : Keeps w) (size : w.size ≤ length m) wh
   module _ (r : runs w ≡ true) (n : ℕ) where
     by_memory : awaited w.plan.first ≡ 0
     by_memory = eqb-true (awaited w.plan.first) 0 (and_parts _ _ r).0
-
-    pub never_declined : (e : ℕ) → ◌≡◌ {A = Result ℕ ℕ} (Err e) (engine.draw_answer (op_at w.plan) m w.drawn n) → ⊥
-    never_declined e d = let f = rw inside at d in cc
 
     count_is : (count : ℕ) → ◌≡◌ {A = Result ℕ ℕ} (Ok count) (engine.draw_answer (op_at w.plan) m w.drawn n) → count ≡ min n (left w)
     count_is count d = let f = rw inside at d in cc

@@ -105,7 +105,10 @@ impl Begun {
         if !self.awaits() {
             return Err(Refusal::NoByteAwaited);
         }
-        self.drawing.feed(palette, memory, &mut self.progress, sent)
+        Ok(
+            self.drawing
+                .feed_inside(palette, memory, &mut self.progress, sent),
+        )
     }
 
     // Draws as many pixels as are allowed and left of a job that memory serves, and answers how many that were.
@@ -134,7 +137,7 @@ impl Begun {
         }
         let count = self
             .drawing
-            .draw(palette, memory, 0, self.progress.drawn, allowance)?;
+            .draw_inside(palette, memory, 0, self.progress.drawn, allowance);
         self.progress.drawn += count;
         Ok(count)
     }

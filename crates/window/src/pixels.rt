@@ -143,17 +143,18 @@ impl Window {
         self.area.start as u64 + pixels * bytes_per_pixel as u64
     }
 
-    // The number that the bytes of pixel k hold.
-    #[tactic(auto, using(crate::proofs::Values::value_of_bytes))]
+    // The number that the bytes of pixel k hold, from the highest on. They are not put into an array, which would have to be waited for
+    // before it is read as a number.
     fn value<M: Memory>(&self, size: PixelSize, memory: &M, k: u32) -> u32
         ensures { result ≡ value_at (M.bytes memory.now) (place (area_of self.now) size.bytes k) size.bytes }
     {
         let from = self.address(size, k);
-        let mut bytes = [0; 4];
-        for (i, byte) in bytes[..size.bytes as usize].iter_mut().enumerate() {
-            *byte = byte_at(memory, from + i as u64);
+        let mut value = 0;
+        for done in 0..size.bytes {
+            let higher = size.bytes - 1 - done;
+            value = value * 256 + byte_at(memory, from + higher as u64) as u32;
         }
-        u32::from_le_bytes(bytes)
+        value
     }
 
     /// The value of pixel `k`, of `size` bytes, low byte first. A byte past memory counts as 0.
@@ -168,7 +169,7 @@ impl Window {
     }
 
     // Puts the bytes of a number as pixel k.
-    #[tactic(auto, using(crate::proofs::Values::stored_again), unfolding(crate::specs::Values::stored))]
+    #[tactic(auto, using(crate::proofs::Values::stored_next), unfolding(crate::specs::Values::stored))]
     fn put<M: Memory>(&self, size: PixelSize, memory: &mut M, k: u32, value: u32)
         ensures { M.bytes memory.new ≡ stored (M.bytes memory.old) (place (area_of self.now) size.bytes k) size.bytes value }
     {

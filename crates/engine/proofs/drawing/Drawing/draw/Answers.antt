@@ -7,8 +7,8 @@ returns g c =
     let a = c.args in
     let m = g.M.Memory.bytes a.memory.now in
     let drew = drew_so g.R.PixelRule.yields g.D.Readable.format g.D.Canvas.narrowed a.self.now a.palette.now m (g.M.Memory.sound a.memory.now)
-    c.size.result c.size.ensures c.if-not-lies_inside.ensures.is a.sent a.first a.allowance c.paint.result (g.M.Memory.bytes c.paint.new.memory)
-    c.paint.ensures.count c.paint.ensures.after in
+    c.size.result c.size.ensures c.if-not-lies_inside.ensures.is a.sent a.first a.allowance c.draw_inside.result (g.M.Memory.bytes c.draw_inside.new.memory)
+    c.draw_inside.ensures.count c.draw_inside.ensures.after in
     record { answer = drew.answer; after = drew.after; accepts = drew.accepts; drew = drew.drew; history = drew.history }
 
 pub returns-then-not-lies_inside-clause-accepts : goal.returns-then-not-lies_inside-clause-accepts

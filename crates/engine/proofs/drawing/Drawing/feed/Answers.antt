@@ -24,7 +24,7 @@ returns g c =
     let m = g.M.Memory.bytes a.memory.now in
     let fed = fed_so g.R.PixelRule.yields g.D.Readable.format g.D.Canvas.narrowed a.self.now a.palette.now m (g.M.Memory.sound a.memory.now)
     c.size.result c.size.ensures c.if-not-lies_inside.ensures.is (stage m a.progress.now)
-    (stage (g.M.Memory.bytes c.take.new.memory) c.take.new.progress) refl a.sent.now c.take.result.0 c.take.result.1 c.take.ensures in
+    (stage (g.M.Memory.bytes c.feed_inside.new.memory) c.feed_inside.new.progress) refl a.sent.now c.feed_inside.result.0 c.feed_inside.result.1 c.feed_inside.ensures.fed in
     record {
       answer = fed.answer;
       after = fed.after;

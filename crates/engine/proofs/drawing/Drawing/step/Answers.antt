@@ -24,4 +24,4 @@ returns-clause-after g c =
     c.draw_by_memory-drawn.ensures.after c.args.palette.now c.args.sent ∙ ap (λ n. painted d k n m) none in
     let same' : g.M.Memory.bytes c.draw_strips-drawn.new.memory ≡ m =
     c.draw_strips-drawn.ensures.after ∙ ap (λ n. painted d k n (g.M.Memory.bytes c.draw_by_memory-drawn.new.memory)) none' ∙ same in
-    c.plot_each.ensures ∙ ap (painted d k c.min-rest.result) same'
+    c.plot_each.ensures ∙ ap (painted d k c.without_strip-rest.result) same'

@@ -1,4 +1,4 @@
-use Rattle.std.proofs.Common.{◌≡◌, ◌*◌, refl, ap, subst, ◌∙◌, arith}
+use Rattle.std.proofs.Common.{◌≡◌, ◌*◌, ◌<◌, ap, subst, ◌∙◌, arith}
 use Rattle.memory.specs.Spans.{span, overlaid}
 use Rattle.window.specs.Places.{place}
 use Rattle.source.specs.Origins.{awaited}
@@ -24,7 +24,7 @@ returns-clause-after g c =
     let y = made o.narrow (o.yields p) in
     let at = place o.target b k in
     let ahead : Ahead o.second k n at b =
-    subst (λ a. Ahead o.second k n a b) c.requires.address (subst (Ahead o.second k n c.args.at) (c.bytes-2.ensures ∙ c.of-size.ensures) (c.if-not-keeps_ahead.ensures refl)) in
+    subst (λ a. Ahead o.second k n a b) c.requires.address (λ i h. c.ahead_of-most.ensures.ahead i (omega arith)) in
     let none : awaited o.second ≡ 0 = omega (arith, c.awaited.ensures.is, c.if-awaited-gt0.false) in
     c.draw_at.ensures
     ∙ ap (λ a. overlaid m a (stripped y b1 second.width b xs second.bytes.now n (span m a (n * b)))) c.requires.address

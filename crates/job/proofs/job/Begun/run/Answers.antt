@@ -2,16 +2,8 @@ use Rattle.std.proofs.Common.{◌≡◌, ◌+◌, true, ◌≤◌, length, Ok, s
 use Rattle.rules.proofs.Meanings.{rule_means}
 use Rattle.job.specs.States.{work_of}
 use Rattle.job.specs.Works.{runs, at_stage, run_answer, run_after, Ran, RunGoesOn}
-use Rattle.job.proofs.Under.{never_declined, run_answer_is, run_after_is, run_memory_is, runs_allowed, further_is, further_keeps, further_story}
+use Rattle.job.proofs.Under.{inside, run_answer_is, run_after_is, run_memory_is, runs_allowed, further_is, further_keeps, further_story}
 use Rattle.job.proofs.job.Begun.run.Goals as goal
-
-pub returns-in_err-count : goal.returns-in_err-count
-returns-in_err-count g c =
-    let m = g.M.Memory.bytes c.args.memory.now in
-    let w = work_of c.self.inside in
-    let size : w.size ≤ length m = omega (arith, c.size.ensures) in
-    let r : runs w ≡ true = ap runs c.self.view_is ∙ sym c.if-not-runs.ensures.answer in
-    absurd (never_declined w m c.self.invariant size r c.args.allowance _ c.in_err-count.ensures.answer)
 
 pub invariant_of-self : goal.invariant_of-self
 invariant_of-self g c =
@@ -19,20 +11,21 @@ invariant_of-self g c =
     let w = work_of c.self.inside in
     let size : w.size ≤ length m = omega (arith, c.size.ensures) in
     let r : runs w ≡ true = ap runs c.self.view_is ∙ sym c.if-not-runs.ensures.answer in
-    further_keeps w m c.self.invariant size r c.args.allowance c.in_ok-count.count c.in_ok-count.ensures.answer
+    let e = c.draw_inside-count.ensures.inside (inside w m c.self.invariant size) in
+    further_keeps w m c.self.invariant size r c.args.allowance c.draw_inside-count.result e.answer
 
 pub returns : goal.returns
 returns g c =
     let m = g.M.Memory.bytes c.args.memory.now in
-    let n = g.M.Memory.bytes c.draw.new.memory in
+    let n = g.M.Memory.bytes c.draw_inside-count.new.memory in
     let p = c.args.palette.now in
     let k = c.args.allowance in
-    let count = c.in_ok-count.count in
-    let e = c.in_ok-count.ensures in
+    let count = c.draw_inside-count.result in
     let w = work_of c.self.inside in
     let progress = record c.self.inside.progress { drawn = c.self.inside.progress.drawn + count } in
     let after = work_of (record c.self.inside { progress = progress }) in
     let size : w.size ≤ length m = omega (arith, c.size.ensures) in
+    let e = c.draw_inside-count.ensures.inside (inside w m c.self.invariant size) in
     let r : runs w ≡ true = ap runs c.self.view_is ∙ sym c.if-not-runs.ensures.answer in
     let memory = e.after ∙ run_memory_is w m c.self.invariant size r k p ∙ sym (ap (λ s. s.memory) (run_after_is w m c.self.invariant size r k p)) in
     let story : RunGoesOn w p m after n = λ start sent s. further_story w m c.self.invariant size r k count e.answer p n start sent e.history s in

@@ -1,6 +1,6 @@
 use Rattle.std.proofs.Common.{◌≡◌, ◌+◌, ◌-◌, ◌≤◌}
 use Rattle.engine.specs.Painted.{op_of, plotted, painted}
-use Rattle.engine.proofs.drawing.Drawing.paint.Given as goal
+use Rattle.engine.proofs.drawing.Drawing.paint_together.Given as goal
 
 abbrev pub invariant-loop-left : goal.invariant-loop-left
 invariant-loop-left g l = record {

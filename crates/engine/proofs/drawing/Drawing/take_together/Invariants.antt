@@ -2,7 +2,7 @@ use Rattle.std.proofs.Common.{◌-◌, length}
 use Rattle.feeding.proofs.Feeding.{SoFar}
 use Rattle.engine.specs.Painted.{op_of}
 use Rattle.engine.specs.Fed.{stage, takes_at, byte_come}
-use Rattle.engine.proofs.drawing.Drawing.take.Given as goal
+use Rattle.engine.proofs.drawing.Drawing.take_together.Given as goal
 
 abbrev pub invariant-loop-taken : goal.invariant-loop-taken
 invariant-loop-taken g l =

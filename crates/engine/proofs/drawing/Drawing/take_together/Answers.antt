@@ -3,8 +3,8 @@ use Rattle.engine.specs.Painted.{op_of}
 use Rattle.engine.specs.Fed.{stage, takes_at, byte_come}
 use Rattle.engine.proofs.Laws.{so_far_grew}
 use Rattle.engine.proofs.Bursts.{slice_more, one_instead, so_far_within, feed_first, feed_all, feed_stopped}
-use Rattle.engine.proofs.drawing.Drawing.take.Goals as goal
-use Rattle.engine.proofs.drawing.Drawing.take.Goals.{then-loop-taken-test+else-takes, else-loop-taken-test}
+use Rattle.engine.proofs.drawing.Drawing.take_together.Goals as goal
+use Rattle.engine.proofs.drawing.Drawing.take_together.Goals.{then-loop-taken-test+else-takes, else-loop-taken-test}
 
 pub loop-taken-init : goal.loop-taken-init
 loop-taken-init g c = record { after = refl; count = refl }
