@@ -13,7 +13,7 @@ use Rattle.colour.proofs.Bits.{turned, turned_lt, turned_bit}
 abbrev made : ℕ → ℕ → ℕ → ℕ
 made n x y = turned n (bit_and (turned n (bit_and x (turned n y))) (turned n (bit_and (turned n x) y)))
 
-xor_made : (n x y : ℕ) → x < 2 ^ n → y < 2 ^ n → made n x y ≡ bit_xor x y
+pub xor_made : (n x y : ℕ) → x < 2 ^ n → y < 2 ^ n → made n x y ≡ bit_xor x y
 xor_made n x y h k = same_from_bits_below n (made n x y) (bit_xor x y) (turned_lt n _) (xor_lt n x y h k) each
   where
     each : (i : ℕ) → i < n → bit_at (made n x y) i ≡ bit_at (bit_xor x y) i

@@ -1,5 +1,5 @@
 -- Operations that do not touch what the other draws or reads may change places.
-use Rattle.std.proofs.Common.{◌≡◌, ℕ, ◌<◌, Bool, ◌&&◌, List, Some, None, Option, sym, refl, ap, ◌∙◌, subst, inl, inr}
+use Rattle.std.proofs.Common.{◌≡◌, ℕ, ◌<◌, Bool, true, ◌&&◌, List, Some, None, Option, sym, refl, ap, ◌∙◌, subst, inl, inr}
 use Rattle.std.proofs.lemmas.Bool.{and_parts}
 use Rattle.colour.specs.declared.Colour.{Colour}
 use Rattle.colour.specs.declared.Palette.{Palette}
@@ -12,7 +12,7 @@ use Rattle.engine.specs.Painted.{Op, yielded, put_colour, plotted}
 use Rattle.engine.specs.Laws.{pixel_at}
 use Rattle.complete.specs.Parts.{sent_in}
 use Rattle.complete.specs.Complete.{Independent, Way, left_by, Completes, Same}
-use Rattle.complete.specs.Laws.{DrawnByBoth, OrderHidden, OrderDoesNotShow}
+use Rattle.complete.specs.Laws.{BothWhole, DrawnByBoth, OrderHidden, OrderDoesNotShow}
 use Rattle.complete.proofs.Passing.{done, done_past}
 
 -- a colour put at pixel k
@@ -94,11 +94,16 @@ order_does_not_show a b b' a' m l n l' n' early late early' late' same-a same-b 
     ∙ done_same a a' same-a l'
     ∙ sym late'.memory_is
 
-pub order_hidden : {a b b' a' : Way} {m m' n n' : List ℕ} {before after complete : Bool} → DrawnByBoth a b m n before → DrawnByBoth b' a' m' n' after
+module _ (a b b' a' : Way) (m m' n n' : List ℕ) (complete : Bool) where
+  pub order_hidden : (complete ≡ true → BothWhole a b m n × BothWhole b' a' m' n') → OrderHidden a b b' a' m m' complete n n'
+  order_hidden drawn same-a same-b free same-m all =
+      let one = (drawn all).0 in
+      let other = (drawn all).1 in
+      let early' = subst (λ x. Completes b' x (left_by b' m')) (sym same-m) other.early in
+      order_does_not_show a b b' a' m (left_by a m) n (left_by b' m') n' one.early one.late early' other.late same-a same-b free
+
+-- as the two answered together
+pub order_hidden_by : {a b b' a' : Way} {m m' n n' : List ℕ} {before after complete : Bool} → DrawnByBoth a b m n before → DrawnByBoth b' a' m' n' after
     → complete ≡ (before && after) → OrderHidden a b b' a' m m' complete n n'
-order_hidden {a} {b} {b'} {a'} {m} {m'} {n} {n'} {before} {after} one other is same-a same-b free same-m all =
-    let each = and_parts before after (sym is ∙ all) in
-    let w = one.whole each.0 in
-    let w' = other.whole each.1 in
-    let early' = subst (λ x. Completes b' x (left_by b' m')) (sym same-m) w'.early in
-    order_does_not_show a b b' a' m (left_by a m) n (left_by b' m') n' w.early w.late early' w'.late same-a same-b free
+order_hidden_by {before} {after} one other is =
+    order_hidden _ _ _ _ _ _ _ _ _ (λ all. let each = and_parts before after (sym is ∙ all) in (one.whole each.0, other.whole each.1))

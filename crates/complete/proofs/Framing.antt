@@ -1,5 +1,5 @@
 -- A way to draw changes nothing but bytes of its operation's pixels.
-use Rattle.std.proofs.Common.{ℕ, ◌-◌, Bool, true, false, cond, List, [], ◌∷◌, length, sym, refl, ◌∙◌, subst, arith}
+use Rattle.std.proofs.Common.{◌≡◌, ℕ, ◌-◌, Bool, true, false, cond, List, [], ◌∷◌, length, sym, refl, ◌∙◌, subst, arith}
 use Rattle.colour.specs.declared.Palette.{Palette}
 use Rattle.window.specs.Places.{pixels}
 use Rattle.engine.specs.Painted.{Op, plotted, painted}
@@ -8,7 +8,7 @@ use Rattle.engine.specs.Laws.{OnlyPixels}
 use Rattle.engine.proofs.Laws.{painted_only, outside_kept}
 use Rattle.complete.specs.Parts.{Portion, feed, run, by_memory, allowed, advanced, stepped, parted, sent_in}
 use Rattle.complete.specs.Complete.{begun, Way, left_by, OnlyDrawn, OnlyBoth}
-use Rattle.complete.specs.Laws.{DrawnByBoth, RectangleOnly}
+use Rattle.complete.specs.Laws.{RectangleOnly}
 use Rattle.complete.proofs.Completing.{fed_only}
 
 only_none : (o : Op) (m : List ℕ) → OnlyDrawn o m m
@@ -50,10 +50,10 @@ left_only w m =
     elim (w.accepts (length m)) as P [ true ↦ parted_only o w.palette (begun m) w.portions | false ↦ only_none o m ]
 
 -- two ways one after another
-pub both_only : {v w : Way} {m n : List ℕ} {complete : Bool} → DrawnByBoth v w m n complete → OnlyBoth v.operation w.operation m n
-both_only {v} {w} {m} drawn =
+pub both_only : (v w : Way) (m n : List ℕ) → n ≡ left_by w (left_by v m) → OnlyBoth v.operation w.operation m n
+both_only v w m n e =
     let f = left_only v m in
-    let g = subst (OnlyDrawn w.operation (left_by v m)) (sym drawn.leaves) (left_only w (left_by v m)) in
+    let g = subst (OnlyDrawn w.operation (left_by v m)) (sym e) (left_only w (left_by v m)) in
     record { size = g.size ∙ f.size; rest = λ x a b. g.rest x b ∙ f.rest x a }
 
 -- all pixels painted, or all bytes fed

@@ -32,7 +32,7 @@ use Rattle.complete.specs.declared.part.Part.{Part}
 use Rattle.complete.specs.Parts.{portion_of, sent_in, by_memory}
 use Rattle.complete.specs.Complete.{begun, Accepted, Way, way_in_parts, left_by}
 use Rattle.complete.specs.Undo.{IsExclusiveOr, SourceApart, exclusive_or_of}
-use Rattle.complete.specs.Laws.{DrawnByBoth, Undone, ExclusiveOrUndoesItself}
+use Rattle.complete.specs.Laws.{left_by_both, both_complete, BothWhole, DrawnByBoth, Undone, ExclusiveOrUndoesItself}
 use Rattle.complete.proofs.Passing.{over, fed_from, fed_past, done}
 use Rattle.complete.proofs.Commuting.{plotted_comm, done_same}
 
@@ -212,10 +212,9 @@ exclusive_or_undoes_itself a a' m l n sound early late same x apart =
     ∙ ap (done a.operation a.palette xs) early.memory_is
     ∙ done_twice a.operation a.palette x (length m) early.accepted apart xs m (record { sound = sound; long = refl })
 
-pub undo : {a a' : Way} {m n : List ℕ} {complete : Bool} → Sound m → DrawnByBoth a a' m n complete → Undone a a' m complete n
-undo {a} {a'} {m} {n} sound drawn same x apart all =
-    let both = drawn.whole all in
-    exclusive_or_undoes_itself a a' m (left_by a m) n sound both.early both.late same x apart
+pub undo : (a a' : Way) (m n : List ℕ) (complete : Bool) → Sound m → (complete ≡ true → BothWhole a a' m n) → Undone a a' m complete n
+undo a a' m n complete sound drawn same x apart all =
+    exclusive_or_undoes_itself a a' m (left_by a m) n sound (drawn all).early (drawn all).late same x apart
 
 -- the operation of a drawing that holds these parts
 module _ {F D : Type 0} (f : F → Format) (d : D → Format) (narrow : D → Colour → ℕ) (x : ExclusiveOr F D) where
@@ -226,15 +225,22 @@ module _ {F D : Type 0} (f : F → Format) (d : D → Format) (narrow : D → Co
 
 -- two drawings of one exclusive or
 pub record Restores (o : Op) (p : Palette) (ps qs : List Part) (m n : List ℕ) (complete : Bool) : Type 0 where
-  pub drawn : DrawnByBoth (way_in_parts o p ps) (way_in_parts o p qs) m n complete
+  pub leaves : n ≡ left_by_both (way_in_parts o p ps) (way_in_parts o p qs) m
+  pub ends : complete ≡ both_complete (way_in_parts o p ps) (way_in_parts o p qs) m
   pub restored : sent_in (map portion_of ps) ≡ sent_in (map portion_of qs) → SourceApart o → complete ≡ true → n ≡ m
 
-pub restores : {o a b : Op} (p : Palette) (ps qs : List Part) {m n : List ℕ} {complete : Bool} → IsExclusiveOr o → a ≡ o → b ≡ o
-    → DrawnByBoth (way_in_parts a p ps) (way_in_parts b p qs) m n complete → Undone (way_in_parts a p ps) (way_in_parts b p qs) m complete n
-    → Restores o p ps qs m n complete
-restores p ps qs x e f drawn undone =
-    let same = rw (e, f) at undone in
-    record {
-      drawn = rw (e, f) at drawn;
-      restored = λ bytes. same (record { operation_is = refl; palette_is = refl; bytes_are = bytes }) x;
-    }
+module _ (o a b : Op) (p : Palette) (ps qs : List Part) (m n : List ℕ) (complete : Bool) where
+  pub restores : IsExclusiveOr o → a ≡ o → b ≡ o → n ≡ left_by_both (way_in_parts a p ps) (way_in_parts b p qs) m
+      → complete ≡ both_complete (way_in_parts a p ps) (way_in_parts b p qs) m
+      → Undone (way_in_parts a p ps) (way_in_parts b p qs) m complete n → Restores o p ps qs m n complete
+  restores x e f leaves ends undone =
+      let same = rw (e, f) at undone in
+      record {
+        leaves = rw (e, f) at leaves;
+        ends = rw (e, f) at ends;
+        restored = λ bytes. same (record { operation_is = refl; palette_is = refl; bytes_are = bytes }) x;
+      }
+
+  -- drawn by both, as the operation itself is
+  pub drawn_as : a ≡ o → b ≡ o → DrawnByBoth (way_in_parts a p ps) (way_in_parts b p qs) m n complete → DrawnByBoth (way_in_parts o p ps) (way_in_parts o p qs) m n complete
+  drawn_as e f drawn = rw (e, f) at drawn

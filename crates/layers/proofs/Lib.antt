@@ -1,5 +1,6 @@
 pub mod LaidSpans
 pub mod Lays
+pub mod Onces
 pub mod PartSpans
 pub mod Parts
 pub mod QueueLate

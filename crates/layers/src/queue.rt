@@ -185,6 +185,7 @@ impl<M: Memory> Memory for WriteQueue<M> {
         ensures answer { numbered result ≡ put_at (laid (M.Memory.bytes self.old.below) self.old.pending) address }
         ensures after { laid (M.Memory.bytes self.new.below) self.new.pending ≡ slice_set (laid (M.Memory.bytes self.old.below) self.old.pending) address value }
         ensures kept { queue (M.Memory.bytes self.new.below) self.new.pending ≡ queued (queue (M.Memory.bytes self.old.below) self.old.pending) address value }
+        ensures once { Once self.old.pending → Once self.new.pending }
     {
         if address >= self.size() {
             return Err(Refusal::NoSuchAddress);
@@ -212,6 +213,7 @@ impl<M: Memory> Memory for WriteQueue<M> {
             ≡ overlaid (laid (M.Memory.bytes self.old.below) self.old.pending) address from.now }
         ensures kept { queue (M.Memory.bytes self.new.below) self.new.pending
             ≡ queued_all (queue (M.Memory.bytes self.old.below) self.old.pending) address from.now }
+        ensures once { Once self.old.pending → Once self.new.pending }
     {
         let room = self.size().saturating_sub(address) as usize;
         let inside = &from[..from.len().min(room)];
@@ -232,6 +234,7 @@ impl<M: Memory> Memory for WriteQueue<M> {
         ensures kept { queue (M.Memory.bytes self.new.below) self.new.pending
             ≡ queued_all (queue (M.Memory.bytes self.old.below) self.old.pending)
             address (times pixel.now count) }
+        ensures once { Once self.old.pending → Once self.new.pending }
     {
         if pixel.is_empty() {
             return;
@@ -254,6 +257,7 @@ impl<M: Memory> Memory for WriteQueue<M> {
             ≡ copied (laid (M.Memory.bytes self.old.below) self.old.pending) from to count }
         ensures kept { queue (M.Memory.bytes self.new.below) self.new.pending
             ≡ queued_copied (queue (M.Memory.bytes self.old.below) self.old.pending) from to count }
+        ensures once { Once self.old.pending → Once self.new.pending }
     {
         let inside = count.min(self.size().saturating_sub(to));
         let through = self.through(to, inside);
@@ -272,6 +276,7 @@ impl<M: Memory> Memory for WriteQueue<M> {
         ensures kept { queue (M.Memory.bytes self.new.below) self.new.pending
             ≡ queued_merged (F.gives rule) (queue (M.Memory.bytes self.old.below) self.old.pending)
             first second to count }
+        ensures once { Once self.old.pending → Once self.new.pending }
     {
         let inside = count.min(self.size().saturating_sub(to));
         let through = self.through(to, inside);

@@ -4,11 +4,15 @@ use Rattle.std.proofs.lemmas.List.{ext_get_or, length-replicate, get_or-replicat
 use Rattle.memory.specs.View.{view_at, view_length}
 use Rattle.memory.specs.Boards.{of_bytes, bytes_plain}
 
+-- how many bytes a block shows
+pub bytes_length : (bs : List ℕ) → length (of_bytes bs) ≡ min 16777216 (length bs)
+bytes_length bs = ap length (bytes_plain bs) ∙ view_length (min 16777216 (length bs)) (λ k. get_or bs k 0)
+
 -- a block of zero bytes shows zero bytes
 pub bytes_zero : (n : ℕ) → n ≤ 16777216 → of_bytes (replicate n 0) ≡ replicate n 0
 bytes_zero n h =
     let zs : List ℕ = replicate n 0 in
-    let long = ap length (bytes_plain zs) ∙ view_length (min 16777216 (length zs)) (λ i. get_or zs i 0) in
+    let long = bytes_length zs in
     let all : length zs ≡ n = length-replicate n 0 in
     let same : length (of_bytes zs) ≡ length zs = omega arith in
     ext_get_or 0 (of_bytes zs) zs same
@@ -18,7 +22,7 @@ bytes_zero n h =
 -- a block of bytes shows as many of them as display memory has
 pub bytes_shown : (bs : List ℕ) (n : ℕ) → n ≡ min (length bs) 16777216 → ((k : ℕ) → get_or bs k 0 < 256) → of_bytes bs ≡ take n bs
 bytes_shown bs n most fits =
-    let long = ap length (bytes_plain bs) ∙ view_length (min 16777216 (length bs)) (λ i. get_or bs i 0) in
+    let long = bytes_length bs in
     let front = length-take n bs in
     ext_get_or 0 (of_bytes bs) (take n bs) (omega arith)
     (λ k in'.

@@ -8,7 +8,7 @@ use Rattle.memory.specs.View.{view_put, view_length, view_at}
 use Rattle.memory.specs.Cells.{CellLaws, in_cells, of_cells, cells_sound}
 
 module _ {C : Type 0} {n : ℕ} {byte : C → ℕ → ℕ} {with_byte : C → ℕ → ℕ → C} (laws : CellLaws n byte with_byte) (cs : List C) where
-  cells_length : length (of_cells n byte cs) ≡ min 16777216 (n * length cs)
+  pub cells_length : length (of_cells n byte cs) ≡ min 16777216 (n * length cs)
   cells_length = view_length (min 16777216 (n * length cs)) (in_cells n byte cs)
 
   -- the bytes of as many cells as memory has

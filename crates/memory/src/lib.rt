@@ -54,7 +54,7 @@ impl ByteRule for First {
     }
 }
 
-/// What every board and every layer over one offers. The size never changes.
+/// What every board and every layer over one offers. The size never changes. A trait object has every call but `copy` and `merge`.
 pub trait Memory {
     // what the memory holds
     ghost bytes: { Self → List ℕ };
@@ -112,6 +112,8 @@ pub trait Memory {
     /// Copies `count` bytes from `from` on to `to` on, one after another, each as it then is. Past the end a byte reads as 0,
     /// and nothing is put.
     fn copy(&mut self, from: u32, to: u32, count: u32)
+    where
+        Self: Sized,
         ensures { bytes self.new ≡ copied (bytes self.old) from to count }
     {
         self.merge(First, from, from, to, count);
@@ -120,6 +122,8 @@ pub trait Memory {
     /// Puts `count` bytes from `to` on, one after another, each made by `rule` of the bytes at the same place from `first` and
     /// from `second` on, as they then are. Past the end a byte reads as 0, and nothing is put.
     fn merge<F: ByteRule>(&mut self, rule: F, first: u32, second: u32, to: u32, count: u32)
+    where
+        Self: Sized,
         ensures { bytes self.new ≡ merged (F.gives rule) (bytes self.old) first second to count }
     {
         for i in 0..count {

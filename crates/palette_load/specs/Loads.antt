@@ -1,5 +1,5 @@
 -- What the bytes of a palette load do.
-use Rattle.std.specs.Prelude.{ℕ, ◌+◌, Bool, List, [], ◌∷◌, nat_lt, slice_set}
+use Rattle.std.specs.Prelude.{ℕ, ◌+◌, ◌<◌, ◌≤◌, Bool, List, [], ◌∷◌, All, length, nat_lt, slice_set}
 use Rattle.feeding.specs.Feeding.{all_fed, count_taken, InParts}
 use Rattle.colour.specs.declared.Palette.{Palette}
 use Rattle.colour.specs.Entries.{entry_of_bytes}
@@ -8,6 +8,12 @@ use Rattle.colour.specs.Entries.{entry_of_bytes}
 pub record Load : Type 0 where
   pub entries : ℕ
   pub waiting : List ℕ
+
+-- what every load keeps: it has at most 64 entries, and at most one byte waits
+pub record Keeps (l : Load) : Type 0 where
+  pub entries : l.entries ≤ 64
+  pub few : length l.waiting ≤ 1
+  pub byte : All (λ b. b < 256) l.waiting
 
 -- and the palette as it then is
 pub record Loading : Type 0 where

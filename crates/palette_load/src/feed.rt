@@ -1,6 +1,6 @@
 // The bytes of a load.
 ghost use Rattle.std.specs.Prelude.{◌≡◌, ℕ, ◌+◌, ◌<◌, ◌≤◌, Bool, []};
-ghost use Rattle.palette_load.specs.Loads.{Loading, loading, unfinished, come, loaded_by, bytes_taken, LoadInParts};
+ghost use Rattle.palette_load.specs.Loads.{Loading, loading, unfinished, come, loaded_by, bytes_taken, LoadInParts, Keeps};
 
 use crate::load::PaletteLoad;
 use colour::Palette;
@@ -16,9 +16,10 @@ impl PaletteLoad {
         }
     }
 
-    // Whether a byte is awaited.
+    // Whether a byte is awaited. What a load keeps is handed on here, since callers see its model alone.
     pub fn awaits(&self) -> bool
-        ensures { result ≡ unfinished self.now.entries }
+        ensures is { result ≡ unfinished self.now.entries }
+        ensures keeps { Keeps self.now }
     {
         self.entries < 64
     }
@@ -38,8 +39,7 @@ impl PaletteLoad {
         }
     }
 
-    // Takes bytes until they end or the load does, and answers how many it took. The engine's `Drawing::feed` says why the loop
-    // stands in both.
+    // Takes bytes until they end or the load does, and answers how many it took.
     pub fn feed(&mut self, palette: &mut Palette, sent: &[u8]) -> usize
         ensures after { loading palette.new self.new ≡ loaded_by (loading palette.old self.old) sent.now }
         ensures taken { result ≡ bytes_taken (loading palette.old self.old) sent.now }

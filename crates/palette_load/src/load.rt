@@ -10,13 +10,15 @@ pub struct PaletteLoad {
 
 // Clauses see the byte that waits as a list of one, or of none.
 impl Model for PaletteLoad {
-    ghost use Rattle.palette_load.specs.Loads.{Load};
+    ghost use Rattle.palette_load.specs.Loads.{Load, Keeps};
 
     ghost Value = { Load };
 
     ghost use Rattle.palette_load.specs.States.{load_of, inside_of, inside_again};
 
     ghost view = { load_of };
+
+    ghost invariant = { λ l. Keeps (load_of l) };
 
     ghost inverse = { inside_of };
 

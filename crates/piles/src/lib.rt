@@ -1,4 +1,4 @@
-// What a put leaves: through two piles of layers over the two boards, and through a board alone.
+// What a put leaves: through two piles of layers over the two boards, through a board alone, and through any memory.
 #![tactic(auto)]
 
 ghost use Rattle.std.specs.Prelude.{◌≡◌, ◌+◌, if◌then◌else◌, Ok, Err, drop, slice_set};
@@ -89,4 +89,12 @@ pub fn put_byte(block: &mut [u8], address: u32, value: u8) -> Result<(), Refusal
 {
     let mut board = ByteBoard::new(block);
     board.put(address, value)
+}
+
+// A put to a memory whose type is known only while the program runs.
+pub fn put_to_any(memory: &mut dyn Memory, address: u32, value: u8) -> Result<(), Refusal>
+    ensures answer { numbered result ≡ put_at (bytes memory.old) address }
+    ensures after { bytes memory.new ≡ slice_set (bytes memory.old) address value }
+{
+    memory.put(address, value)
 }

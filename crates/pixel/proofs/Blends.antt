@@ -15,7 +15,7 @@ weighted_low : (level x y z : ℕ) → level ≤ 32 → z ≤ x → z ≤ y → 
 weighted_low level x y z h p q =
     omega (arith, all_weights level z h, mul-le-mul_right level p, mul-le-mul_right (32 - level) q)
 
-weighted_high : (level x y z : ℕ) → level ≤ 32 → x ≤ z → y ≤ z → weighted level x y ≤ z * 32
+pub weighted_high : (level x y z : ℕ) → level ≤ 32 → x ≤ z → y ≤ z → weighted level x y ≤ z * 32
 weighted_high level x y z h p q =
     omega (arith, all_weights level z h, mul-le-mul_right level p, mul-le-mul_right (32 - level) q)
 

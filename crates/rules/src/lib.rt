@@ -22,8 +22,10 @@ pub trait PixelRule {
     fn colour(&self, palette: &Palette, first: u32, second: u32) -> Option<Colour>
         ensures { result ≡ yields self.now palette.now first second };
 
-    /// What the rule does on plain values on a canvas, where it is known.
+    /// What the rule does on plain values on a canvas, where it is known. A trait object has `colour` alone.
     fn on_values<D: Canvas>(&self, canvas: &D) -> Option<ValueRule>
+    where
+        Self: Sized,
         ensures { IfSome result (Agrees (yields self.now) (D.format canvas.now) (D.narrowed canvas.now)) }
     {
         let _ = canvas;

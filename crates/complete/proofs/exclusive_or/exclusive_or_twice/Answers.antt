@@ -1,6 +1,6 @@
 use Rattle.std.proofs.Common.{refl}
 use Rattle.complete.specs.Undo.{IsExclusiveOr, exclusive_or_of}
-use Rattle.complete.proofs.Undoing.{drawing_op, restores}
+use Rattle.complete.proofs.Undoing.{drawing_op, restores, drawn_as}
 use Rattle.complete.proofs.exclusive_or.exclusive_or_twice.Goals as goal
 
 pub returns : goal.returns
@@ -19,9 +19,9 @@ returns g c =
     let a = c.drawing.ensures in
     let b = c.drawing-2.ensures in
     let both = c.twice.ensures in
-    let all =
-    restores c.args.palette.now c.args.parts.now c.args.again.now x
-    (drawing_op f d narrow w c.drawing.result a.rule a.canvas a.first a.second a.target)
-    (drawing_op f d narrow w c.drawing-2.result b.rule b.canvas b.first b.second b.target)
-    both.drawn both.undone in
-    record { drawn = all.drawn; restored = all.restored }
+    let e = drawing_op f d narrow w c.drawing.result a.rule a.canvas a.first a.second a.target in
+    let e' = drawing_op f d narrow w c.drawing-2.result b.rule b.canvas b.first b.second b.target in
+    let ps = c.args.parts.now in
+    let qs = c.args.again.now in
+    let all = restores o _ _ c.args.palette.now ps qs _ _ _ x e e' both.drawn.leaves both.drawn.ends both.undone in
+    record { drawn = drawn_as o _ _ c.args.palette.now ps qs _ _ _ e e' both.drawn; restored = all.restored }

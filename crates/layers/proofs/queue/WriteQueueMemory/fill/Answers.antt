@@ -1,12 +1,13 @@
-use Rattle.std.proofs.Common.{◌≡◌, ◌+◌, ◌-◌, ◌*◌, ◌/◌, ◌<◌, ◌≤◌, ℕ, [], min, length, get_or, sym, ap, ◌∙◌, arith, rules, tests}
+use Rattle.std.proofs.Common.{◌≡◌, ◌+◌, ◌-◌, ◌*◌, ◌/◌, ◌<◌, ◌≤◌, ℕ, [], min, length, get_or, sym, ap, ◌∙◌, arith, rules, tests, subst}
 use Rattle.std.proofs.Math.Nat.{div-le_self, div-mul-le_self}
 use Rattle.std.proofs.lemmas.Grind.{div_ceil_times}
 use Rattle.memory.specs.Spans.{overlaid, times}
 use Rattle.memory.proofs.Pieces.{overlaid_none}
 use Rattle.layers.specs.Laid.{laid}
-use Rattle.layers.specs.Queue.{queue, over, queued_all}
+use Rattle.layers.specs.Queue.{queue, over, queued_all, Once}
 use Rattle.layers.proofs.Lays.{length_laid}
 use Rattle.layers.proofs.QueueSpans.{queued_pixels, queued_no_pixels, queued_nothing, no_bytes, over_queued_all, bytes_times}
+use Rattle.layers.proofs.Onces.{once_all}
 use Rattle.layers.proofs.queue.WriteQueueMemory.fill.Goals as goal
 use Rattle.layers.proofs.queue.WriteQueueMemory.fill.Goals.{then-through-gt0, else-through-gt0}
 
@@ -63,3 +64,8 @@ returns-clause-after g c =
 
 pub returns-clause-kept : goal.returns-clause-kept
 returns-clause-kept g c = kept g c
+
+pub returns-clause-once : goal.returns-clause-once
+returns-clause-once g c o =
+    let old = queue (g.M.Memory.bytes c.args.self.now.below) c.args.self.now.pending in
+    subst (λ q. Once q.entries) (sym (kept g c)) (once_all old c.args.address (times c.args.pixel.now c.args.count) o)

@@ -1,9 +1,10 @@
-use Rattle.std.proofs.Common.{◌≡◌, ◌+◌, ◌-◌, [], min, length, ap, ◌∙◌, arith}
+use Rattle.std.proofs.Common.{◌≡◌, ◌+◌, ◌-◌, [], min, length, ap, ◌∙◌, arith, sym, subst}
 use Rattle.memory.specs.Spans.{merged}
 use Rattle.layers.specs.Laid.{laid_sound}
-use Rattle.layers.specs.Queue.{queue, over, queued_merged}
+use Rattle.layers.specs.Queue.{queue, over, queued_merged, Once}
 use Rattle.layers.proofs.Lays.{length_laid}
 use Rattle.layers.proofs.QueueMerges.{queued_merged_some, queued_merged_none, over_queued_merged}
+use Rattle.layers.proofs.Onces.{once_merged}
 use Rattle.layers.proofs.queue.WriteQueueMemory.merge.Goals as goal
 use Rattle.layers.proofs.queue.WriteQueueMemory.merge.Goals.{then-through-gt0, else-through-gt0}
 
@@ -44,3 +45,9 @@ returns-clause-after g c =
 
 pub returns-clause-kept : goal.returns-clause-kept
 returns-clause-kept g c = kept g c
+
+pub returns-clause-once : goal.returns-clause-once
+returns-clause-once g c o =
+    let f = g.F.ByteRule.gives c.args.rule in
+    let old = queue (g.M.Memory.bytes c.args.self.now.below) c.args.self.now.pending in
+    subst (λ q. Once q.entries) (sym (kept g c)) (once_merged f old c.args.first c.args.second c.args.to c.args.count o)

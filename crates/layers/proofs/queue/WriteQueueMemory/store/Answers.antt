@@ -1,8 +1,9 @@
-use Rattle.std.proofs.Common.{◌≡◌, ◌+◌, ◌-◌, ◌<◌, ℕ, [], min, length, get_or, take, drop, ap, ◌∙◌, arith}
+use Rattle.std.proofs.Common.{◌≡◌, ◌+◌, ◌-◌, ◌<◌, ℕ, [], min, length, get_or, take, drop, ap, ◌∙◌, arith, sym, subst}
 use Rattle.memory.specs.Spans.{overlaid}
-use Rattle.layers.specs.Queue.{queue, over, queued_all}
+use Rattle.layers.specs.Queue.{queue, over, queued_all, Once}
 use Rattle.layers.proofs.Lays.{length_laid}
 use Rattle.layers.proofs.QueueSpans.{queued_some, queued_none, over_queued_all}
+use Rattle.layers.proofs.Onces.{once_all}
 use Rattle.layers.proofs.queue.WriteQueueMemory.store.Goals as goal
 use Rattle.layers.proofs.queue.WriteQueueMemory.store.Goals.{then-through-gt0, else-through-gt0}
 
@@ -39,3 +40,8 @@ returns-clause-after g c =
 
 pub returns-clause-kept : goal.returns-clause-kept
 returns-clause-kept g c = kept g c
+
+pub returns-clause-once : goal.returns-clause-once
+returns-clause-once g c o =
+    let old = queue (g.M.Memory.bytes c.args.self.now.below) c.args.self.now.pending in
+    subst (λ q. Once q.entries) (sym (kept g c)) (once_all old c.args.address c.args.from.now o)

@@ -5,7 +5,7 @@ use Rattle.palette_load.proofs.load.PaletteLoad.feed.Goals as goal
 
 pub loop-taken-preserved : goal.loop-taken-preserved
 loop-taken-preserved c =
-    one_more takes come c.loop-taken.invariant (loading c.accept.new.palette c.accept.new.self) (omega arith) c.if-not-awaits.ensures c.accept.ensures
+    one_more takes come c.loop-taken.invariant (loading c.accept.new.palette c.accept.new.self) (omega arith) c.if-not-awaits.ensures.is c.accept.ensures
 
 pub returns : goal.returns
 returns c =
@@ -14,5 +14,5 @@ returns c =
 
 pub returns-then-not-awaits : goal.returns-then-not-awaits
 returns-then-not-awaits c =
-    let all = ended takes come c.loop-taken.invariant c.if-not-awaits.ensures in
+    let all = ended takes come c.loop-taken.invariant c.if-not-awaits.ensures.is in
     record { after = all.0; taken = omega arith; parts = in_parts takes come }
