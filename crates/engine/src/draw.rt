@@ -43,6 +43,7 @@ impl<R: PixelRule, D: Canvas> Drawing<R, D> {
 
     // Draws pixel k, where the host sent a number.
     #[tactic(auto, unfolding(crate::specs::Painted::plotted))]
+    #[inline(always)]
     fn plot<M: Memory>(&self, palette: &Palette, memory: &mut M, sent: u32, k: u32)
         ensures { M.bytes memory.new ≡ plotted (op_of R.yields D.format D.narrowed self.now) palette.now sent k (M.bytes memory.old) }
     {
@@ -170,7 +171,7 @@ impl<R: PixelRule, D: Canvas> Drawing<R, D> {
 
     // Draws so many pixels, or as many as are left, from `first` on, whether the drawing lies inside memory or not.
     #[inline(always)]
-    pub(crate) fn paint<M: Memory>(
+    fn paint<M: Memory>(
         &self,
         palette: &Palette,
         memory: &mut M,
@@ -190,6 +191,24 @@ impl<R: PixelRule, D: Canvas> Drawing<R, D> {
             self.paint_together(palette, memory, sent, first, count);
         }
         count
+    }
+
+    // The same, as a call of its own: of the bytes that come one by one most draw nothing.
+    #[inline(never)]
+    pub(crate) fn paint_due<M: Memory>(
+        &self,
+        palette: &Palette,
+        memory: &mut M,
+        sent: u32,
+        first: u32,
+        due: u32,
+    ) -> u32
+        ensures count { result ≡ allowed (op_of R.yields D.format D.narrowed self.now) first due }
+        ensures after { M.bytes memory.new
+            ≡ painted (plotted (op_of R.yields D.format D.narrowed self.now) palette.now sent) first result
+            (M.bytes memory.old) }
+    {
+        self.paint(palette, memory, sent, first, due)
     }
 
     /// [`Drawing::draw`] where the drawing is known to lie inside memory, without the test. Elsewhere what lies past memory reads as 0,

@@ -73,7 +73,7 @@ impl<R: PixelRule, D: Canvas> Drawing<R, D> {
             None => {
                 let sent = progress.waiting.number(byte);
                 let due = self.first.served(progress.drawn);
-                progress.drawn += self.paint(palette, memory, sent, progress.drawn, due);
+                progress.drawn += self.paint_due(palette, memory, sent, progress.drawn, due);
                 progress.waiting = Waiting::None;
             }
         }
@@ -88,7 +88,8 @@ impl<R: PixelRule, D: Canvas> Drawing<R, D> {
     }
 
     // Takes the bytes of whole pixels, as many as can be drawn together, and answers how many bytes: none where it was found that they
-    // cannot, where bytes wait, where the host does not send pixels, where the bytes of fewer than `FEW` are there, or where the pixels are not drawn together.
+    // cannot, where bytes wait, where the host does not send pixels, where the bytes of fewer than `FEW` are there, or where the pixels
+    // are not drawn together.
     fn take_pixels<M: Memory>(
         &self,
         palette: &Palette,

@@ -26,7 +26,7 @@ const ROOM: usize = 1024;
 pub(crate) const FEW: u32 = 8;
 
 // Fewer pixels than this side by side make no strip.
-pub(crate) const NARROW: u32 = 4;
+pub(crate) const NARROW: u32 = 3;
 
 // Pixels side by side: where the first of them begins in memory, and how many they are.
 #[derive(Clone, Copy)]
