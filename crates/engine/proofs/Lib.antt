@@ -1,7 +1,5 @@
 pub mod Painting
 pub mod Buffers
-pub mod Kept
-pub mod Mirrored
 pub mod Orders
 pub mod Spans
 pub mod Beside

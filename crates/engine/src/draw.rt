@@ -159,7 +159,7 @@ impl<R: PixelRule, D: Canvas> Drawing<R, D> {
             ≡ painted (plotted (op_of R.yields D.format D.narrowed self.now) palette.now sent) first count
             (M.bytes memory.old) }
     {
-        let known = self.rule.on_values(&self.canvas);
+        let known = rules::on_values(&self.rule, &self.canvas);
         let mut k = first;
         let mut left = count;
         while left > 0 {

@@ -162,7 +162,7 @@ impl<R: PixelRule, D: Canvas> Drawing<R, D> {
             result.0 result.1 }
     {
         let before = progress.drawn;
-        let known = self.rule.on_values(&self.canvas);
+        let known = rules::on_values(&self.rule, &self.canvas);
         let mut together = true;
         let mut taken = 0;
         while taken < sent.len() && self.takes(progress.drawn) {

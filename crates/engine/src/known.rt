@@ -4,11 +4,10 @@ ghost use Rattle.rules.specs.Values.{gives, by_bytes};
 ghost use Rattle.rules.specs.declared.values.ValueRule.TheVariants.{Blend};
 ghost use Rattle.engine.specs.Strips.{stripped, Common, Alike, strip_of_bytes};
 
-use crate::masks::{Masks, MeanByte, Xor};
 use crate::strips::{OnValues, Values, draw_each};
-use crate::values::{EachByte, FieldsMean, KeyValue, OddValue, Rgb565Mean, TwoValues};
+use crate::values::{EachByte, FieldsMean, KeyValue, MeanByte, OddValue, Rgb565Mean, TwoValues};
 use colour::{FieldWidth, Fields};
-use memory::{ByteRule, First};
+use memory::{ByteRule, First, Masks, Xor};
 use rules::ValueRule;
 
 // The fields of 3:3:2.

@@ -7,7 +7,6 @@ mod drawing;
 mod feed;
 mod inside;
 mod known;
-mod masks;
 mod rows;
 mod strips;
 mod together;

@@ -3,15 +3,12 @@ ghost use Rattle.std.specs.Prelude.{◌≡◌, ℕ, ◌≤◌, true, IfSome};
 ghost use Rattle.colour.specs.declared.Palette.{Palette};
 ghost use Rattle.window.specs.Places.{area_of, place};
 ghost use Rattle.source.specs.Origins.{origin_of, image};
-ghost use Rattle.memory.specs.Spans.{merged};
-ghost use Rattle.pixel.specs.Rasters.{raster_channel};
 ghost use Rattle.rules.specs.Values.{Agrees};
 ghost use Rattle.rules.specs.declared.values.ValueRule.TheVariants.{Fill, First, Raster};
 ghost use Rattle.engine.specs.Painted.{op_of, plotted, painted};
 ghost use Rattle.engine.specs.Strips.{ReadFirst};
 
 use crate::drawing::Drawing;
-use crate::masks::{Masks, Xor};
 use colour::{Canvas, Readable};
 use memory::Memory;
 use rules::PixelRule;
@@ -31,24 +28,6 @@ pub(crate) fn address_of(window: &Window, size: PixelSize, k: u32) -> Option<u32
     ensures { IfSome result (λ a. a ≡ place (area_of window.now) size.bytes k) }
 {
     u32::try_from(window.address(size, k)).ok()
-}
-
-// Makes so many bytes by a raster rule. Where the first source is the target, the sources change places, since memory is fast where
-// the second one is.
-#[tactic(auto, using(crate::proofs::Mirrored::merged_mirrored))]
-fn merge_by<M: Memory>(memory: &mut M, rule: u8, first: u32, second: u32, to: u32, count: u32)
-    ensures { M.bytes memory.new ≡ merged (raster_channel rule) (M.bytes memory.old) first second to count }
-{
-    if rule == 6 {
-        return memory.merge(Xor, first, second, to, count);
-    }
-    let masks = Masks::of(rule);
-    let (masks, first, second) = if first == to {
-        (masks.mirrored(), second, first)
-    } else {
-        (masks, first, second)
-    };
-    memory.merge(masks, first, second, to, count);
 }
 
 impl<R: PixelRule, D: Canvas> Drawing<R, D> {
@@ -145,7 +124,7 @@ impl<R: PixelRule, D: Canvas> Drawing<R, D> {
         let Some(bytes) = count.checked_mul(size.bytes() as u32) else {
             return 0;
         };
-        merge_by(memory, rule, first, second, to, bytes);
+        memory.raster(rule, first, second, to, bytes);
         count
     }
 }

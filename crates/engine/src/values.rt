@@ -4,6 +4,7 @@ ghost use Rattle.colour.specs.Widths.{widened};
 ghost use Rattle.colour.specs.declared.fields.Fields.{Fields};
 ghost use Rattle.pixel.specs.Blends.{blend_channel};
 ghost use Rattle.rules.specs.Values.{by_fields};
+ghost use Rattle.engine.specs.ByteRules.{mean_fits};
 ghost use Rattle.engine.specs.Strips.{rgb565, made};
 
 use crate::strips::OnValues;
@@ -71,6 +72,23 @@ impl<F: ByteRule> OnValues for EachByte<F> {
     fn value(&self, first: u32, second: u32) -> Option<u32> {
         let byte = self.rule.byte((first % 256) as u8, (second % 256) as u8);
         Some(byte as u32)
+    }
+}
+
+// The mean of two channels of 8 bits.
+#[derive(Clone, Copy)]
+pub(crate) struct MeanByte {
+    pub(crate) level: u8,
+}
+
+impl ByteRule for MeanByte {
+    ghost gives = { λ m x y. blend_channel m.level x y };
+
+    ghost fits = { λ m. mean_fits m.level };
+
+    #[inline(always)]
+    fn byte(self, first: u8, second: u8) -> u8 {
+        pixel::blend_channel(self.level, first, second)
     }
 }
 

@@ -1,7 +1,7 @@
 #![tactic(auto)]
 
-// Rows of bits and the rules on pixels, against values worked by hand; a maker's own format through the engine, and drawings that
-// it declines.
+// Rows of bits and the rules on pixels, against values worked by hand; a maker's own format and rule through the engine, and
+// drawings that it declines.
 #[cfg(test)]
 mod bit_rows;
 #[cfg(test)]
@@ -16,3 +16,5 @@ mod maker;
 mod overlaps;
 #[cfg(test)]
 mod rasters;
+#[cfg(test)]
+mod told;

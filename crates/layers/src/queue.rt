@@ -6,9 +6,10 @@ ghost use Rattle.memory.specs.Spans.{overlaid, times, merged, copied};
 ghost use Rattle.layers.specs.Laid.{laid, laid_sound};
 ghost use Rattle.layers.specs.Queue.{queue, sent, drained, taken, queued};
 ghost use Rattle.layers.specs.Queue.{queued_all, queued_merged, queued_copied, through, Once};
+ghost use Rattle.pixel.specs.Rasters.{raster_channel};
 
 use super::pending::{Entry, Pending};
-use memory::{ByteRule, First, Memory};
+use memory::{ByteRule, First, Masks, Memory};
 use refusal::Refusal;
 
 // What it shows is the memory below, but at each address that waits the byte that waits there. Not `Drop`, so no waiting byte can be
@@ -157,6 +158,19 @@ impl<M: Memory> WriteQueue<M> {
             }
         }
     }
+
+    /// As [`memory::merge`] does in any memory: so many puts, one after another.
+    pub fn merge<F: ByteRule>(&mut self, rule: F, first: u32, second: u32, to: u32, count: u32)
+        ensures after { laid (M.bytes self.new.below) self.new.pending
+            ≡ merged (F.gives rule) (laid (M.bytes self.old.below) self.old.pending)
+            first second to count }
+        ensures kept { queue (M.bytes self.new.below) self.new.pending
+            ≡ queued_merged (F.gives rule) (queue (M.bytes self.old.below) self.old.pending)
+            first second to count }
+        ensures once { Once self.old.pending → Once self.new.pending }
+    {
+        self.merge_each(rule, first, second, to, 0, count);
+    }
 }
 
 impl<M: Memory> Memory for WriteQueue<M> {
@@ -269,12 +283,12 @@ impl<M: Memory> Memory for WriteQueue<M> {
     }
 
     // As `copy`.
-    fn merge<F: ByteRule>(&mut self, rule: F, first: u32, second: u32, to: u32, count: u32)
+    fn raster(&mut self, rule: u8, first: u32, second: u32, to: u32, count: u32)
         ensures after { laid (M.Memory.bytes self.new.below) self.new.pending
-            ≡ merged (F.gives rule) (laid (M.Memory.bytes self.old.below) self.old.pending)
+            ≡ merged (raster_channel rule) (laid (M.Memory.bytes self.old.below) self.old.pending)
             first second to count }
         ensures kept { queue (M.Memory.bytes self.new.below) self.new.pending
-            ≡ queued_merged (F.gives rule) (queue (M.Memory.bytes self.old.below) self.old.pending)
+            ≡ queued_merged (raster_channel rule) (queue (M.Memory.bytes self.old.below) self.old.pending)
             first second to count }
         ensures once { Once self.old.pending → Once self.new.pending }
     {
@@ -282,8 +296,8 @@ impl<M: Memory> Memory for WriteQueue<M> {
         let through = self.through(to, inside);
         if through > 0 {
             self.drain();
-            self.below.merge(rule, first, second, to, through);
+            self.below.raster(rule, first, second, to, through);
         }
-        self.merge_each(rule, first, second, to, through, inside);
+        self.merge_each(Masks::of(rule), first, second, to, through, inside);
     }
 }

@@ -4,8 +4,9 @@ ghost use Rattle.refusal.specs.Numbers.{numbered};
 ghost use Rattle.memory.specs.Bytes.{read_at, put_at};
 ghost use Rattle.memory.specs.Spans.{overlaid, times, merged, copied};
 ghost use Rattle.layers.specs.Part.{part, part_sound, put_under};
+ghost use Rattle.pixel.specs.Rasters.{raster_channel};
 
-use memory::{ByteRule, First, Memory};
+use memory::{ByteRule, First, Masks, Memory};
 use refusal::Refusal;
 
 // It has the lesser of `length` and what lies below from `start`; nothing where `start` is past the end below. No model: it hands
@@ -70,8 +71,8 @@ impl<M: Memory> Stretch<M> {
             .map_or(0, |address| self.read(address).unwrap_or(0))
     }
 
-    // `merge`, byte by byte.
-    fn merge_each<F: ByteRule>(&mut self, rule: F, first: u32, second: u32, to: u32, count: u32)
+    /// As [`memory::merge`] does in any memory. What lies outside the stretch is never written.
+    pub fn merge<F: ByteRule>(&mut self, rule: F, first: u32, second: u32, to: u32, count: u32)
         ensures after { part (M.bytes self.new.below) self.new.start self.new.length ≡ merged (F.gives rule) (part (M.bytes self.old.below) self.old.start self.old.length) first second to count }
         ensures under { M.bytes self.new.below ≡ overlaid (M.bytes self.old.below) self.old.start (merged (F.gives rule) (part (M.bytes self.old.below) self.old.start self.old.length) first second to count) }
         ensures start { self.new.start ≡ self.old.start }
@@ -172,13 +173,13 @@ impl<M: Memory> Memory for Stretch<M> {
         let whole = count.min(from_room).min(to_room);
         self.below.copy(from_place, to_place, whole);
         let next = from + whole;
-        self.merge_each(First, next, next, to + whole, count - whole);
+        self.merge(First, next, next, to + whole, count - whole);
     }
 
     // As `copy`.
-    fn merge<F: ByteRule>(&mut self, rule: F, first: u32, second: u32, to: u32, count: u32)
-        ensures after { part (M.Memory.bytes self.new.below) self.new.start self.new.length ≡ merged (F.gives rule) (part (M.Memory.bytes self.old.below) self.old.start self.old.length) first second to count }
-        ensures under { M.Memory.bytes self.new.below ≡ overlaid (M.Memory.bytes self.old.below) self.old.start (merged (F.gives rule) (part (M.Memory.bytes self.old.below) self.old.start self.old.length) first second to count) }
+    fn raster(&mut self, rule: u8, first: u32, second: u32, to: u32, count: u32)
+        ensures after { part (M.Memory.bytes self.new.below) self.new.start self.new.length ≡ merged (raster_channel rule) (part (M.Memory.bytes self.old.below) self.old.start self.old.length) first second to count }
+        ensures under { M.Memory.bytes self.new.below ≡ overlaid (M.Memory.bytes self.old.below) self.old.start (merged (raster_channel rule) (part (M.Memory.bytes self.old.below) self.old.start self.old.length) first second to count) }
         ensures start { self.new.start ≡ self.old.start }
         ensures length { self.new.length ≡ self.old.length }
     {
@@ -187,9 +188,9 @@ impl<M: Memory> Memory for Stretch<M> {
         let (to_place, to_room) = self.room(to);
         let whole = count.min(first_room).min(second_room).min(to_room);
         self.below
-            .merge(rule, first_place, second_place, to_place, whole);
-        self.merge_each(
-            rule,
+            .raster(rule, first_place, second_place, to_place, whole);
+        self.merge(
+            Masks::of(rule),
             first + whole,
             second + whole,
             to + whole,

@@ -8,3 +8,5 @@ pub mod WordSpans
 pub mod SpanBytes
 pub mod Pieces
 pub mod Fills
+pub mod Kept
+pub mod Mirrored

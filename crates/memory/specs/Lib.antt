@@ -3,3 +3,4 @@ pub mod View
 pub mod Cells
 pub mod Boards
 pub mod Spans
+pub mod Rasters

@@ -8,10 +8,13 @@ ghost use Rattle.memory.specs.Cells.{CellLaws, of_cells, cells_sound};
 ghost use Rattle.memory.specs.Spans.{OfBytes, span, overlaid, times, merged, copied};
 ghost use Rattle.memory.specs.Spans.{SpanBytes, StoredBytes, FilledBytes, MergedBytes, CopiedBytes};
 ghost use Rattle.memory.specs.Boards.{whole, with_whole, whole_laws, half, with_half, half_laws};
+ghost use Rattle.pixel.specs.Rasters.{raster_channel};
 
 mod bytes;
+mod rasters;
 mod words;
 
+pub use rasters::{Masks, Xor};
 use refusal::Refusal;
 
 /// What makes a byte of two bytes.
@@ -54,7 +57,7 @@ impl ByteRule for First {
     }
 }
 
-/// What every board and every layer over one offers. The size never changes. A trait object has every call but `copy` and `merge`.
+/// What every board and every layer over one offers. The size never changes.
 pub trait Memory {
     // what the memory holds
     ghost bytes: { Self → List ℕ };
@@ -112,20 +115,25 @@ pub trait Memory {
     /// Copies `count` bytes from `from` on to `to` on, one after another, each as it then is. Past the end a byte reads as 0,
     /// and nothing is put.
     fn copy(&mut self, from: u32, to: u32, count: u32)
-    where
-        Self: Sized,
         ensures { bytes self.new ≡ copied (bytes self.old) from to count }
     {
-        self.merge(First, from, from, to, count);
+        for i in 0..count {
+            let byte = from
+                .checked_add(i)
+                .map_or(0, |address| self.read(address).unwrap_or(0));
+            if let Some(address) = to.checked_add(i) {
+                let _ = self.put(address, byte);
+            }
+        }
     }
 
-    /// Puts `count` bytes from `to` on, one after another, each made by `rule` of the bytes at the same place from `first` and
-    /// from `second` on, as they then are. Past the end a byte reads as 0, and nothing is put.
-    fn merge<F: ByteRule>(&mut self, rule: F, first: u32, second: u32, to: u32, count: u32)
-    where
-        Self: Sized,
-        ensures { bytes self.new ≡ merged (F.gives rule) (bytes self.old) first second to count }
+    /// Puts `count` bytes from `to` on, one after another, each made by a raster rule, of which the lowest four bits count, of the
+    /// bytes at the same place from `first` and from `second` on, as they then are. Past the end a byte reads as 0, and nothing
+    /// is put.
+    fn raster(&mut self, rule: u8, first: u32, second: u32, to: u32, count: u32)
+        ensures { bytes self.new ≡ merged (raster_channel rule) (bytes self.old) first second to count }
     {
+        let masks = Masks::of(rule);
         for i in 0..count {
             let one = first
                 .checked_add(i)
@@ -134,8 +142,33 @@ pub trait Memory {
                 .checked_add(i)
                 .map_or(0, |address| self.read(address).unwrap_or(0));
             if let Some(address) = to.checked_add(i) {
-                let _ = self.put(address, rule.byte(one, other));
+                let _ = self.put(address, masks.byte(one, other));
             }
+        }
+    }
+}
+
+/// Puts `count` bytes in any memory from `to` on, one after another, each made by `rule` of the bytes at the same place from `first`
+/// and from `second` on, as they then are. Past the end a byte reads as 0, and nothing is put.
+pub fn merge<M: Memory, F: ByteRule>(
+    memory: &mut M,
+    rule: F,
+    first: u32,
+    second: u32,
+    to: u32,
+    count: u32,
+)
+    ensures { M.bytes memory.new ≡ merged (F.gives rule) (M.bytes memory.old) first second to count }
+{
+    for i in 0..count {
+        let one = first
+            .checked_add(i)
+            .map_or(0, |address| memory.read(address).unwrap_or(0));
+        let other = second
+            .checked_add(i)
+            .map_or(0, |address| memory.read(address).unwrap_or(0));
+        if let Some(address) = to.checked_add(i) {
+            let _ = memory.put(address, rule.byte(one, other));
         }
     }
 }
@@ -247,7 +280,7 @@ pub trait Cell: Copy {
         Self::merge(block, First, from, from, to, count);
     }
 
-    /// [`Memory::merge`] within a block.
+    /// [`merge`] within a block.
     fn merge<F: ByteRule>(block: &mut [Self], rule: F, first: u32, second: u32, to: u32, count: u32)
         ensures after { of_cells BYTES byte block.new
             ≡ merged (F.gives rule) (of_cells BYTES byte block.old) first second to count }
@@ -401,6 +434,21 @@ impl<'a, C: Cell> Board<'a, C> {
         let Board { block } = self;
         block
     }
+
+    /// As [`merge`] does in any memory.
+    pub fn merge<F: ByteRule>(&mut self, rule: F, first: u32, second: u32, to: u32, count: u32)
+        ensures after { of_cells C.BYTES C.byte self.new.block.now
+            ≡ merged (F.gives rule) (of_cells C.BYTES C.byte self.old.block.now)
+            first second to count }
+        ensures bytes { MergedBytes (F.gives rule)
+            (of_cells C.BYTES C.byte self.old.block.now) first second to count
+            (of_cells C.BYTES C.byte self.new.block.now) }
+        ensures lent { self.new.block.ghost_name ≡ self.old.block.ghost_name }
+        ensures rest { drop (16777216 / C.BYTES) self.new.block.now
+            ≡ drop (16777216 / C.BYTES) self.old.block.now }
+    {
+        C::merge(self.block, rule, first, second, to, count);
+    }
 }
 
 impl<C: Cell> Memory for Board<'_, C> {
@@ -478,17 +526,17 @@ impl<C: Cell> Memory for Board<'_, C> {
         C::copy(self.block, from, to, count);
     }
 
-    fn merge<F: ByteRule>(&mut self, rule: F, first: u32, second: u32, to: u32, count: u32)
+    fn raster(&mut self, rule: u8, first: u32, second: u32, to: u32, count: u32)
         ensures after { of_cells C.BYTES C.byte self.new.block.now
-            ≡ merged (F.gives rule) (of_cells C.BYTES C.byte self.old.block.now)
+            ≡ merged (raster_channel rule) (of_cells C.BYTES C.byte self.old.block.now)
             first second to count }
-        ensures bytes { MergedBytes (F.gives rule)
+        ensures bytes { MergedBytes (raster_channel rule)
             (of_cells C.BYTES C.byte self.old.block.now) first second to count
             (of_cells C.BYTES C.byte self.new.block.now) }
         ensures lent { self.new.block.ghost_name ≡ self.old.block.ghost_name }
         ensures rest { drop (16777216 / C.BYTES) self.new.block.now
             ≡ drop (16777216 / C.BYTES) self.old.block.now }
     {
-        C::merge(self.block, rule, first, second, to, count);
+        rasters::raster(self.block, rule, first, second, to, count);
     }
 }

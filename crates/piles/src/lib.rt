@@ -5,6 +5,8 @@ ghost use Rattle.std.specs.Prelude.{◌≡◌, ◌+◌, if◌then◌else◌, Ok,
 ghost use Rattle.refusal.specs.Numbers.{numbered};
 ghost use Rattle.memory.specs.Bytes.{put_at};
 ghost use Rattle.memory.specs.Boards.{of_bytes, of_words};
+ghost use Rattle.memory.specs.Spans.{merged, copied};
+ghost use Rattle.pixel.specs.Rasters.{raster_channel};
 ghost use Rattle.layers.specs.Part.{part};
 ghost use Rattle.piles.specs.Reach.{has};
 
@@ -97,4 +99,25 @@ pub fn put_to_any(memory: &mut dyn Memory, address: u32, value: u8) -> Result<()
     ensures after { bytes memory.new ≡ slice_set (bytes memory.old) address value }
 {
     memory.put(address, value)
+}
+
+/// A copy within a memory whose type is known only while the program runs.
+pub fn copy_in_any(memory: &mut dyn Memory, from: u32, to: u32, count: u32)
+    ensures { bytes memory.new ≡ copied (bytes memory.old) from to count }
+{
+    memory.copy(from, to, count);
+}
+
+/// Bytes made by a raster rule within a memory whose type is known only while the program runs.
+pub fn raster_in_any(
+    memory: &mut dyn Memory,
+    rule: u8,
+    first: u32,
+    second: u32,
+    to: u32,
+    count: u32,
+)
+    ensures { bytes memory.new ≡ merged (raster_channel rule) (bytes memory.old) first second to count }
+{
+    memory.raster(rule, first, second, to, count);
 }

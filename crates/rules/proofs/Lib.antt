@@ -1,3 +1,4 @@
 pub mod Wide
 pub mod Meanings
 pub mod PlainValues
+pub mod Colours

@@ -1,5 +1,5 @@
 -- What a rule does on plain values is what it does through colours.
-use Rattle.std.proofs.Common.{◌≡◌, ℕ, zero, suc, ◌+◌, ◌*◌, ◌/◌, ◌%◌, ◌^◌, ◌<◌, Bool, ◌&&◌, true, false, cond, eqb, Some, None, Option, IfSome, refl, sym, ap, ◌∙◌, arith}
+use Rattle.std.proofs.Common.{◌≡◌, ℕ, zero, suc, ◌+◌, ◌*◌, ◌/◌, ◌%◌, ◌^◌, ◌<◌, Bool, ◌&&◌, true, false, cond, eqb, Some, None, Option, IfSome, refl, sym, ap, subst, ◌∙◌, arith}
 use denote.Enum.Bare.{sameb, same_true}
 use Rattle.std.specs.Bool.{then_some}
 use Rattle.std.specs.Option.{option_map, option_eq}
@@ -10,9 +10,7 @@ use Rattle.colour.specs.declared.Palette.{Palette}
 use Rattle.colour.specs.declared.fields.Fields.{Fields}
 use Rattle.colour.specs.contracts.field.FieldWidth.{the_type}
 use Rattle.colour.specs.declared.field.FieldWidth.{FieldWidth}
-use Rattle.colour.specs.Widths.{bits_of}
 use Rattle.colour.specs.Channels.{Channels}
-use Rattle.colour.specs.Packing.{unpacked_colour}
 use Rattle.colour.specs.Formats.{Format, Narrows}
 use Rattle.colour.specs.Unpacks.{Unpacks, Packs}
 use Rattle.pixel.specs.Rasters.{raster_channel, raster_bits, rastered}
@@ -56,22 +54,27 @@ both_fit (Blend level fields) b x y h k = (h, k)
 abbrev same_fields : Fields → Fields → Bool
 same_fields g h = sameb the_type g.high h.high && (sameb the_type g.middle h.middle && sameb the_type g.low h.low)
 
-same_width : (w u : FieldWidth) → sameb the_type w u ≡ true → bits_of w ≡ bits_of u
-same_width w u e = ap bits_of (same_true the_type tt w u e)
-
 and_both : (a b : Bool) → (a && b) ≡ true → (a ≡ true) × (b ≡ true)
 and_both true b e = (refl, e)
 and_both false b e = absurd (false≢true e)
 
-pub unpacks_same : (f : Format) (known : Option Fields) (h : Fields) → IfSome known (Unpacks f) → option_eq same_fields known (Some h) ≡ true → Unpacks f h
-unpacks_same f None h u e p v = absurd (false≢true e)
-unpacks_same f (Some g) h u e p v =
+equal_fields : (g h : Fields) → same_fields g h ≡ true → g ≡ h
+equal_fields g h e =
     let one = and_both _ _ e in
     let two = and_both _ _ one.1 in
-    u p v
-    ∙ ap (λ n. unpacked_colour n (bits_of g.middle) (bits_of g.low) v) (same_width g.high h.high one.0)
-    ∙ ap (λ m. unpacked_colour (bits_of h.high) m (bits_of g.low) v) (same_width g.middle h.middle two.0)
-    ∙ ap (λ l. unpacked_colour (bits_of h.high) (bits_of h.middle) l v) (same_width g.low h.low two.1)
+    let same : (w u : FieldWidth) → sameb the_type w u ≡ true → w ≡ u = same_true the_type tt in
+    rw (same g.high h.high one.0, same g.middle h.middle two.0, same g.low h.low two.1) refl
+
+-- what holds of known fields holds of those that are found to be these
+known_same : (P : Fields → Type 0) (known : Option Fields) (h : Fields) → IfSome known P → option_eq same_fields known (Some h) ≡ true → P h
+known_same P None h u e = absurd (false≢true e)
+known_same P (Some g) h u e = subst P (equal_fields g h e) u
+
+pub unpacks_same : (f : Format) (known : Option Fields) (h : Fields) → IfSome known (Unpacks f) → option_eq same_fields known (Some h) ≡ true → Unpacks f h
+unpacks_same f = known_same (Unpacks f)
+
+pub packs_same : (narrow : Colour → ℕ) (known : Option Fields) (h : Fields) → IfSome known (Packs narrow) → option_eq same_fields known (Some h) ≡ true → Packs narrow h
+packs_same narrow = known_same (Packs narrow)
 
 -- two formats show the same colour for each value under every palette
 abbrev pub SameColours : Format → Format → Type 0
@@ -79,6 +82,10 @@ SameColours f g = (p : Palette) (v : ℕ) → f.colour p v ≡ g.colour p v
 
 pub same_colours : (f d : Format) (g : Fields) → Unpacks f g → Unpacks d g → SameColours f d
 same_colours f d g u w p v = u p v ∙ sym (w p v)
+
+-- raster rule 12 is the first source
+pub rastered_twelve : (c e : Colour) → Channels c → rastered 12 c e ≡ c
+rastered_twelve c e h = rw (raster_twelve 8 c.red e.red h.red, raster_twelve 8 c.green e.green h.green, raster_twelve 8 c.blue e.blue h.blue) refl
 
 module _ (d : Format) (narrow : Colour → ℕ) where
   pub fill_agrees : (foreground : Colour) (v : ℕ) → v ≡ narrow foreground → Agrees (fill_yields foreground) d narrow (Fill v)
@@ -117,9 +124,6 @@ module _ (d : Format) (narrow : Colour → ℕ) where
         ∙ ap (λ x. raster_bits (8 * d.width) rule x (narrow (d.colour p b))) (laws.back p a h.0)
         ∙ ap (raster_bits (8 * d.width) rule a) (laws.back p b h.1)
         ∙ sym (by_bytes_raster rule d.width a b)))
-
-    rastered_twelve : (c e : Colour) → Channels c → rastered 12 c e ≡ c
-    rastered_twelve c e h = rw (raster_twelve 8 c.red e.red h.red, raster_twelve 8 c.green e.green h.green, raster_twelve 8 c.blue e.blue h.blue) refl
 
     pub first_agrees : (f s : Format) (rule : ℕ) → rule ≡ 12 → SameColours f d → Agrees (raster_yields f s rule) d narrow First
     first_agrees f s rule e same p a b h =

@@ -3,3 +3,4 @@ pub mod Chosen
 pub mod Meanings
 pub mod Levels
 pub mod Values
+pub mod Colours

@@ -4,8 +4,8 @@ ghost use Rattle.std.specs.Prelude.{◌≡◌, ℕ};
 ghost use Rattle.rules.specs.Chosen.{rule_yields};
 ghost use Rattle.rules.specs.Meanings.{Means};
 
-use crate::{Blend, Expand, ExpandOver, Fill, Key, OverlayBlend, PixelRule, Raster, ValueRule};
-use colour::{Canvas, Colour, Palette, Readable};
+use crate::{Blend, ColourRule, Expand, ExpandOver, Fill, Key, OverlayBlend, PixelRule, Raster};
+use colour::{Colour, Palette};
 use formats::{Depth, OverlayKind};
 
 #[derive(Clone, Copy)]
@@ -39,15 +39,15 @@ impl PixelRule for Rule {
         }
     }
 
-    fn on_values<D: Canvas>(&self, canvas: &D) -> Option<ValueRule> {
+    fn on_colours(&self) -> Option<ColourRule> {
         match self {
-            Rule::Raster(rule) => rule.on_values(canvas),
-            Rule::Key(rule) => rule.on_values(canvas),
-            Rule::Expand(rule) => rule.on_values(canvas),
-            Rule::ExpandOver(rule) => rule.on_values(canvas),
-            Rule::Blend(rule) => rule.on_values(canvas),
-            Rule::OverlayBlend(rule) => rule.on_values(canvas),
-            Rule::Fill(rule) => rule.on_values(canvas),
+            Rule::Raster(rule) => rule.on_colours(),
+            Rule::Key(rule) => rule.on_colours(),
+            Rule::Expand(rule) => rule.on_colours(),
+            Rule::ExpandOver(rule) => rule.on_colours(),
+            Rule::Blend(rule) => rule.on_colours(),
+            Rule::OverlayBlend(rule) => rule.on_colours(),
+            Rule::Fill(rule) => rule.on_colours(),
         }
     }
 }

@@ -4,8 +4,9 @@
 ghost use Rattle.std.specs.Prelude.{◌≡◌, ℕ, ◌<◌, ◌≤◌, true, Ok, Err, IfSome};
 ghost use Rattle.refusal.specs.Numbers.{numbered};
 ghost use Rattle.rules.specs.Yields.{Yields, raster_yields, key_yields, expand_yields, expand_over_yields, blend_yields, overlay_blend_yields, fill_yields};
+ghost use Rattle.rules.specs.Colours.{Colours};
 ghost use Rattle.rules.specs.Values.{Agrees};
-ghost use Rattle.colour.specs.Unpacks.{Unpacks};
+ghost use Rattle.colour.specs.Unpacks.{Unpacks, Packs};
 
 mod chosen;
 mod values;
@@ -13,7 +14,7 @@ mod values;
 pub use chosen::Rule;
 use colour::{Canvas, Colour, Fields, Overlay, Palette, Readable};
 use refusal::Refusal;
-pub use values::ValueRule;
+pub use values::{ColourRule, ValueRule};
 
 pub trait PixelRule {
     ghost yields: { Self → Yields };
@@ -22,22 +23,52 @@ pub trait PixelRule {
     fn colour(&self, palette: &Palette, first: u32, second: u32) -> Option<Colour>
         ensures { result ≡ yields self.now palette.now first second };
 
-    /// What the rule does on plain values on a canvas, where it is known. A trait object has `colour` alone.
-    fn on_values<D: Canvas>(&self, canvas: &D) -> Option<ValueRule>
-    where
-        Self: Sized,
-        ensures { IfSome result (Agrees (yields self.now) (D.format canvas.now) (D.narrowed canvas.now)) }
+    /// What the rule makes of the values in colours, whatever the palette, where it is known.
+    fn on_colours(&self) -> Option<ColourRule>
+        ensures { IfSome result (Colours (yields self.now)) }
     {
-        let _ = canvas;
         None
     }
 }
 
 // Whether a format is known to be of these fields.
+#[tactic(auto, using(crate::proofs::PlainValues::unpacks_same))]
 fn has_fields<F: Readable>(format: &F, fields: Fields) -> bool
     ensures { result ≡ true → Unpacks (F.format format.now) fields }
 {
     format.fields() == Some(fields)
+}
+
+// Whether a canvas is known to be of these fields both ways.
+#[tactic(auto, using(crate::proofs::PlainValues::unpacks_same, crate::proofs::PlainValues::packs_same))]
+fn packs_fields<D: Canvas>(canvas: &D, fields: Fields) -> bool
+    ensures shows { result ≡ true → Unpacks (D.format canvas.now) fields }
+    ensures packs { result ≡ true → Packs (D.narrowed canvas.now) fields }
+{
+    canvas.packed_fields() == Some(fields)
+}
+
+/// What a rule does on plain values on a canvas, where it is known: what it does in colours, narrowed.
+pub fn on_values<R: PixelRule, D: Canvas>(rule: &R, canvas: &D) -> Option<ValueRule>
+    ensures { IfSome result (Agrees (R.yields rule.now) (D.format canvas.now) (D.narrowed canvas.now)) }
+{
+    match rule.on_colours()? {
+        ColourRule::Fill(colour) => Some(ValueRule::Fill(canvas.narrow(colour))),
+        ColourRule::First(fields) => has_fields(canvas, fields).then_some(ValueRule::First),
+        ColourRule::Raster { rule, fields } => {
+            has_fields(canvas, fields).then_some(ValueRule::Raster(rule))
+        }
+        ColourRule::Key { key, fields } => {
+            has_fields(canvas, fields).then_some(ValueRule::Key(key))
+        }
+        ColourRule::Expand { one, zero } => Some(ValueRule::Expand {
+            one: canvas.narrow(one),
+            zero: zero.map(|colour| canvas.narrow(colour)),
+        }),
+        ColourRule::Blend { level, fields } => {
+            packs_fields(canvas, fields).then_some(ValueRule::Blend { level, fields })
+        }
+    }
 }
 
 // The raster rule that gives the first source, whatever the second.
@@ -63,15 +94,13 @@ impl<F: Readable, S: Readable> PixelRule for Raster<F, S> {
         )
     }
 
-    fn on_values<D: Canvas>(&self, canvas: &D) -> Option<ValueRule> {
-        let fields = canvas.fields()?;
-        if !has_fields(&self.first, fields) {
-            return None;
+    fn on_colours(&self) -> Option<ColourRule> {
+        let fields = self.first.fields()?;
+        let rule = self.rule;
+        if rule == COPY {
+            return Some(ColourRule::First(fields));
         }
-        if self.rule == COPY {
-            return Some(ValueRule::First);
-        }
-        has_fields(&self.second, fields).then_some(ValueRule::Raster(self.rule))
+        has_fields(&self.second, fields).then_some(ColourRule::Raster { rule, fields })
     }
 }
 
@@ -94,10 +123,10 @@ impl<F: Canvas> PixelRule for Key<F> {
         )
     }
 
-    fn on_values<D: Canvas>(&self, canvas: &D) -> Option<ValueRule> {
-        let fields = canvas.fields()?;
+    fn on_colours(&self) -> Option<ColourRule> {
+        let fields = self.first.fields()?;
         let key = self.first.narrow(self.background);
-        has_fields(&self.first, fields).then_some(ValueRule::Key(key))
+        Some(ColourRule::Key { key, fields })
     }
 }
 
@@ -116,10 +145,10 @@ impl PixelRule for Expand {
         pixel::expanded(first, self.foreground, self.background)
     }
 
-    fn on_values<D: Canvas>(&self, canvas: &D) -> Option<ValueRule> {
-        Some(ValueRule::Expand {
-            one: canvas.narrow(self.foreground),
-            zero: Some(canvas.narrow(self.background)),
+    fn on_colours(&self) -> Option<ColourRule> {
+        Some(ColourRule::Expand {
+            one: self.foreground,
+            zero: Some(self.background),
         })
     }
 }
@@ -139,9 +168,9 @@ impl PixelRule for ExpandOver {
         pixel::expanded_over(first, self.foreground)
     }
 
-    fn on_values<D: Canvas>(&self, canvas: &D) -> Option<ValueRule> {
-        Some(ValueRule::Expand {
-            one: canvas.narrow(self.foreground),
+    fn on_colours(&self) -> Option<ColourRule> {
+        Some(ColourRule::Expand {
+            one: self.foreground,
             zero: None,
         })
     }
@@ -189,11 +218,10 @@ impl<F: Readable, S: Readable> PixelRule for Blend<F, S> {
         )
     }
 
-    fn on_values<D: Canvas>(&self, canvas: &D) -> Option<ValueRule> {
-        let fields = canvas.packed_fields()?;
+    fn on_colours(&self) -> Option<ColourRule> {
+        let fields = self.first.fields()?;
         let level = self.level;
-        let both = has_fields(&self.first, fields) && has_fields(&self.second, fields);
-        both.then_some(ValueRule::Blend { level, fields })
+        has_fields(&self.second, fields).then_some(ColourRule::Blend { level, fields })
     }
 }
 
@@ -232,7 +260,7 @@ impl PixelRule for Fill {
         pixel::filled(self.foreground)
     }
 
-    fn on_values<D: Canvas>(&self, canvas: &D) -> Option<ValueRule> {
-        Some(ValueRule::Fill(canvas.narrow(self.foreground)))
+    fn on_colours(&self) -> Option<ColourRule> {
+        Some(ColourRule::Fill(self.foreground))
     }
 }

@@ -5,7 +5,7 @@ use Rattle.source.specs.Origins.{sampled}
 use Rattle.pixel.specs.Rasters.{raster_channel}
 use Rattle.rules.specs.declared.values.ValueRule.TheVariants.{Raster}
 use Rattle.engine.specs.Painted.{op_of}
-use Rattle.engine.specs.ByteRules.{raster_fits}
+use Rattle.memory.specs.Rasters.{raster_fits}
 use Rattle.engine.specs.Strips.{ReadFirst}
 use Rattle.engine.proofs.Spans.{read_first_as}
 use Rattle.engine.proofs.Beside.{puts_given, merged_painted}
@@ -32,7 +32,7 @@ returns-clause-after g c p sent =
     read_first_as c.in-Some-address_of.first x c.in-Some-address_of-3.to t c.bytes.result b first to (c.bytes.ensures ∙ wide) (c.if-not-are_read_first.ensures refl) in
     let second_apart : ReadFirst y t b =
     read_first_as c.in-Some-address_of-2.second y c.in-Some-address_of-3.to t c.bytes-2.result b second to (c.bytes-2.ensures ∙ wide) (c.if-not-are_read_first-2.ensures refl) in
-    c.merge_by.ensures
+    c.raster.ensures
     ∙ ap (λ a. merged f m a c.in-Some-address_of-2.second c.in-Some-address_of-3.to c.in-Some-checked_mul.bytes) first
     ∙ ap (λ a. merged f m x a c.in-Some-address_of-3.to c.in-Some-checked_mul.bytes) second
     ∙ ap (λ a. merged f m x y a c.in-Some-checked_mul.bytes) to

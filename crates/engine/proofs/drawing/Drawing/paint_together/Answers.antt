@@ -1,4 +1,4 @@
-use Rattle.std.proofs.Common.{◌≡◌, ◌+◌, ◌-◌, refl, sym, ap, ◌∙◌, arith}
+use Rattle.std.proofs.Common.{◌≡◌, ◌-◌, refl, sym, ◌∙◌, arith}
 use Rattle.engine.specs.Painted.{op_of, plotted, painted}
 use Rattle.engine.proofs.Beside.{painted_on}
 use Rattle.engine.proofs.drawing.Drawing.paint_together.Goals as goal

@@ -1,4 +1,4 @@
-use Rattle.std.proofs.Common.{◌≡◌, ◌*◌, ◌<◌, ap, subst, ◌∙◌, arith}
+use Rattle.std.proofs.Common.{◌≡◌, ◌*◌, ap, subst, ◌∙◌, arith}
 use Rattle.memory.specs.Spans.{span, overlaid}
 use Rattle.window.specs.Places.{place}
 use Rattle.source.specs.Origins.{awaited}

@@ -19,7 +19,7 @@ returns-clause-after g c =
     let s = c.args.self.now in
     let f : ℕ → ℕ → ℕ = λ x _. x in
     let n = c.min-whole.result in
-    c.merge_each.ensures.after
+    c.merge.ensures.after
     ∙ ap (λ l. merged f (part l s.start s.length) (c.args.from + n) (c.args.from + n) (c.args.to + n) (c.args.count - n)) c.copy.ensures
     ∙ both_part f (g.M.Memory.bytes s.below) s.start s.length c.args.from c.args.from c.args.to c.room-from_place.result.0 c.room-from_place.result.0 c.room-to_place.result.0 c.args.count n
     c.room-from_place.ensures.place c.room-from_place.ensures.place c.room-to_place.ensures.place (omega arith) (omega arith) (omega arith) (omega arith)
@@ -29,7 +29,7 @@ returns-clause-under g c =
     let s = c.args.self.now in
     let f : ℕ → ℕ → ℕ = λ x _. x in
     let n = c.min-whole.result in
-    c.merge_each.ensures.under
+    c.merge.ensures.under
     ∙ ap (λ l. overlaid l s.start (merged f (part l s.start s.length) (c.args.from + n) (c.args.from + n) (c.args.to + n) (c.args.count - n))) c.copy.ensures
     ∙ both_under f (g.M.Memory.bytes s.below) s.start s.length c.args.from c.args.from c.args.to c.room-from_place.result.0 c.room-from_place.result.0 c.room-to_place.result.0 c.args.count n
     c.room-from_place.ensures.place c.room-from_place.ensures.place c.room-to_place.ensures.place (omega arith) (omega arith) (omega arith) (omega arith)

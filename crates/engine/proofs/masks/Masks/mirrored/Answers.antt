@@ -1,7 +1,0 @@
-use Rattle.std.proofs.Common.{ap, ◌∙◌}
-use Rattle.pixel.specs.Rasters.{raster_channel}
-use Rattle.engine.proofs.Mirrored.{mirrored_bits}
-use Rattle.engine.proofs.masks.Masks.mirrored.Goals as goal
-
-pub returns : goal.returns
-returns c x y = ap (λ r. raster_channel r x y) c.of.ensures ∙ mirrored_bits 8 c.args.self.rule x y
